@@ -1,0 +1,12 @@
+pub mod Order
+pub mod Machines
+pub mod Counting
+pub mod Exploring
+pub mod Earliest
+pub mod WellFormed
+pub mod Refining
+pub mod Settled
+pub mod Joined
+pub mod Tidy
+pub mod Tables
+pub mod Minimal

@@ -1,0 +1,110 @@
+-- The smallest table with the histories of a table: it is tidy, so tables with the same histories have the same smallest table, and none of them has
+-- fewer rows. It ends in the rows built for a machine: machines of one width have the same rows exactly if they have the same histories.
+use mathlib.Core.Path.{_≡_, refl, sym, ap, _∙_, subst}
+use mathlib.Core.Bool.{true}
+use mathlib.Core.List.{List}
+use Prim.Native.Nat.{ℕ, _≤_}
+use native.Mathlib.Omega.{arith}
+use lib.ListN.{length}
+use Rattle.automaton.specs.History.{History}
+use Rattle.automaton.specs.Machine.{Machine, after, isState, possible, Alike}
+use Rattle.automaton.specs.Explore.{reached}
+use Rattle.automaton.specs.Table.{table, tabled}
+use Rattle.automaton.specs.Join.{joined, minimal}
+use Rattle.automaton.proofs.WellFormed.{IsTable}
+use Rattle.automaton.proofs.Exploring.{reached-few}
+use Rattle.automaton.proofs.Joined.{IsClass, joined-step-class, joined-after-class, joined-start, joined-possible, joined-distinct}
+use Rattle.automaton.proofs.Tidy.{TidyRows, SameHistories, tidy-rows-unique}
+use Rattle.automaton.proofs.Tables.{table-length, table-is-table, table-tidy, table-histories}
+
+-- a tidy table of width w with the histories of m
+pub record TidyTableOf (w : ℕ) (m : Machine) (rows : List (List ℕ)) : Type 0 where
+  pub isTable : IsTable w rows
+  pub tidy : TidyRows w rows
+  pub histories : (h : History) → possible (tabled w rows) h ≡ possible m h
+
+-- machines have the same tidy table exactly if they have the same histories
+module _ (w : ℕ) (m n : Machine) (A B : List (List ℕ)) (a : TidyTableOf w m A) (b : TidyTableOf w n B) where
+  pub tidy-table-unique : ((h : History) → possible m h ≡ possible n h) → A ≡ B
+  tidy-table-unique same =
+      tidy-rows-unique w A B (a .isTable) (b .isTable) (a .tidy) (b .tidy) (λ h. a .histories h ∙ same h ∙ sym (b .histories h))
+
+  pub tidy-table-same : A ≡ B → (h : History) → possible m h ≡ possible n h
+  tidy-table-same e h = sym (a .histories h) ∙ ap (λ (rows : List (List ℕ)). possible (tabled w rows) h) e ∙ b .histories h
+
+module _ (w : ℕ) (rows : List (List ℕ)) (ok : IsTable w rows) where
+  abbrev J : Machine
+  J = joined w rows
+
+  -- the joined machine has at most as many states as the table has rows
+  joined-few : length (reached J (length rows)) ≤ length rows
+  joined-few = reached-few J (length rows) refl (length rows) (λ s c. joined-step-class w rows ok s c .0) (ok .some)
+
+  -- histories lead to classes, and alike classes are equal
+  led-to-class : (h : History) → IsClass rows (after J 1 h)
+  led-to-class h = joined-after-class w rows ok 1 h (ok .some, joined-start w rows ok)
+
+  led-distinct : (g h : History) → Alike J (after J 1 g) J (after J 1 h) → after J 1 g ≡ after J 1 h
+  led-distinct g h = joined-distinct w rows ok (after J 1 g) (after J 1 h) (led-to-class g) (led-to-class h)
+
+  -- the smallest table is well formed and tidy, and has the table's histories
+  pub minimal-tidy-table : TidyTableOf w (tabled w rows) (minimal w rows)
+  unfolding minimal
+  minimal-tidy-table = record {
+    isTable = table-is-table J (length rows) refl joined-few;
+    tidy = table-tidy J (length rows) refl joined-few led-distinct;
+    histories = λ h. table-histories J (length rows) refl joined-few h ∙ joined-possible w rows ok h;
+  }
+
+  pub minimal-length : length (minimal w rows) ≤ length rows
+  unfolding minimal
+  minimal-length = omega (arith, table-length J (reached J (length rows)), joined-few)
+
+  -- a table is tidy exactly if it is its own smallest table
+  pub minimal-of-tidy : TidyRows w rows → minimal w rows ≡ rows
+  minimal-of-tidy tidy =
+      let small = minimal-tidy-table in
+      tidy-rows-unique w (minimal w rows) rows (small .isTable) ok (small .tidy) tidy (small .histories)
+
+  pub tidy-of-minimal : minimal w rows ≡ rows → TidyRows w rows
+  tidy-of-minimal e = subst (TidyRows w) e (minimal-tidy-table .tidy)
+
+module _ (w : ℕ) (A B : List (List ℕ)) (okA : IsTable w A) (okB : IsTable w B) where
+  -- tables of one width have the same smallest table exactly if they have the same histories
+  pub minimal-unique : SameHistories w A B → minimal w A ≡ minimal w B
+  minimal-unique = tidy-table-unique w (tabled w A) (tabled w B) (minimal w A) (minimal w B) (minimal-tidy-table w A okA) (minimal-tidy-table w B okB)
+
+  pub minimal-same : minimal w A ≡ minimal w B → SameHistories w A B
+  minimal-same = tidy-table-same w (tabled w A) (tabled w B) (minimal w A) (minimal w B) (minimal-tidy-table w A okA) (minimal-tidy-table w B okB)
+
+  -- no table with the histories of A has fewer rows
+  pub fewest : SameHistories w A B → length (minimal w A) ≤ length B
+  fewest same = rw (minimal-unique same) (minimal-length w B okB)
+
+-- ---- the rows built for a machine
+abbrev pub rowsFor : Machine → ℕ → List (List ℕ)
+rowsFor m most = minimal (m .width) (table m (reached m most))
+
+module _ (m : Machine) (most : ℕ) (begins : isState (m .start) ≡ true) (enough : length (reached m most) ≤ most) where
+  abbrev whole : List (List ℕ)
+  whole = table m (reached m most)
+
+  pub built : TidyTableOf (m .width) m (rowsFor m most)
+  built =
+      let small = minimal-tidy-table (m .width) whole (table-is-table m most begins enough) in
+      record { isTable = small .isTable; tidy = small .tidy; histories = λ h. small .histories h ∙ table-histories m most begins enough h }
+
+  pub built-length : length (rowsFor m most) ≤ length (reached m most)
+  built-length = omega (arith, minimal-length (m .width) whole (table-is-table m most begins enough), table-length m (reached m most))
+
+module _ (m n : Machine) (widths : m .width ≡ n .width) (most : ℕ) (begins-m : isState (m .start) ≡ true) (begins-n : isState (n .start) ≡ true)
+    (enough-m : length (reached m most) ≤ most) (enough-n : length (reached n most) ≤ most) where
+  built-n : TidyTableOf (m .width) n (rowsFor n most)
+  built-n = subst (λ (w : ℕ). TidyTableOf w n (rowsFor n most)) (sym widths) (built n most begins-n enough-n)
+
+  -- machines of one width have the same rows exactly if they have the same histories
+  pub built-unique : ((h : History) → possible m h ≡ possible n h) → rowsFor m most ≡ rowsFor n most
+  built-unique = tidy-table-unique (m .width) m n (rowsFor m most) (rowsFor n most) (built m most begins-m enough-m) built-n
+
+  pub built-same : rowsFor m most ≡ rowsFor n most → (h : History) → possible m h ≡ possible n h
+  built-same = tidy-table-same (m .width) m n (rowsFor m most) (rowsFor n most) (built m most begins-m enough-m) built-n

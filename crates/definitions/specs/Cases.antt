@@ -1,0 +1,8 @@
+-- The table of cases: equations between the definitions and what document 01 and its source say that they give. proofs/Cases.antt proves each.
+pub mod Claim
+pub mod Samples
+pub mod Document
+pub mod Khoumsi
+pub mod Refusals
+pub mod Calls
+pub mod Table

@@ -1,0 +1,47 @@
+-- Document 01's "Cases to be proved", row by row, with one case more for its first trainee error.
+use mathlib.Core.List.{List, [], _∷_}
+use mathlib.Core.Option.{none, some}
+use lib.ListN.{length}
+use Rattle.definitions.specs.Refusal.{policyRefusal, situations}
+use Rattle.definitions.specs.Build.{bookOf, bookRows}
+use Rattle.definitions.specs.Verdict.{findings}
+use Rattle.definitions.specs.Compare.{comparison}
+use Rattle.definitions.specs.Cases.Claim.{Claim, number, bytes, rows, found, history}
+use Rattle.definitions.specs.Cases.Samples.{policyA, policyB, policyC, policyD, policyE, policyF, policyG, policyJ, policyH, policyS, policyL, bookA, noFindings, conflictAfter, missingAfter, missingAndBlockedAfter}
+
+abbrev pub documentCases : List Claim
+documentCases =
+    -- A
+    bytes (bookOf policyA) bookA
+    ∷ found (findings (bookOf policyA)) noFindings
+    -- B against A, and A against B
+    ∷ history (comparison (bookOf policyB) (bookOf policyA)) (some (3 ∷ 3 ∷ []))
+    ∷ history (comparison (bookOf policyA) (bookOf policyB)) (some (3 ∷ 3 ∷ []))
+    ∷ history (comparison (bookOf policyA) (bookOf policyA)) none
+    -- C
+    ∷ bytes (bookOf policyC) bookA
+    -- D
+    ∷ number (length (situations policyD)) 5
+    ∷ bytes (bookOf policyD) bookA
+    -- E, and at level 1
+    ∷ found (findings (bookOf (policyE 0))) (conflictAfter 0 (3 ∷ 3 ∷ []))
+    ∷ found (findings (bookOf (policyE 1))) noFindings
+    -- F
+    ∷ found (findings (bookOf policyF)) (missingAfter 1 (3 ∷ 3 ∷ []))
+    -- G
+    ∷ rows (bookRows policyG) ((2 ∷ 0 ∷ 2 ∷ 0 ∷ []) ∷ (0 ∷ 0 ∷ 0 ∷ 0 ∷ []) ∷ [])
+    ∷ found (findings (bookOf policyG)) (missingAndBlockedAfter 0 (0 ∷ []))
+    -- J
+    ∷ found (findings (bookOf policyJ)) (missingAfter 0 (1 ∷ []))
+    -- H
+    ∷ number (length (situations policyH)) 2
+    ∷ rows (bookRows policyH) ((1 ∷ 0 ∷ []) ∷ [])
+    ∷ found (findings (bookOf policyH)) noFindings
+    -- S with 6
+    ∷ number (length (situations (policyS 6))) 64
+    ∷ number (length (bookRows (policyS 6))) 1
+    -- S with 7
+    ∷ number (policyRefusal (policyS 7)) 11
+    -- a lower level does not apply because the higher rule decided the same
+    ∷ rows (bookRows policyL) ((1 ∷ 0 ∷ []) ∷ [])
+    ∷ []

@@ -1,0 +1,86 @@
+-- The policies and books of document 01's cases.
+use mathlib.Core.List.{List, [], _∷_, _++_}
+use mathlib.Core.Option.{none, some}
+use Prim.Native.Nat.{ℕ}
+use lib.ListN.{replicate}
+use Rattle.automaton.specs.History.{History}
+use Rattle.definitions.specs.Verdict.{Found, Findings}
+
+-- a policy of E events, one field, P variables and R rules, from the value count on
+abbrev pub policy : ℕ → ℕ → ℕ → List ℕ → List ℕ
+policy E P R rest = 0x50 ∷ 0x4F ∷ 0x4C ∷ 0 ∷ 1 ∷ E ∷ 1 ∷ P ∷ R ∷ rest
+
+-- a rule with one mask below 256 and one variable: mask, decision, level, ge, lt, change
+abbrev pub ruleOf : ℕ → ℕ → ℕ → ℕ → ℕ → ℕ → List ℕ
+ruleOf m d l ge lt ch = 0 ∷ m ∷ d ∷ l ∷ ge ∷ lt ∷ ch ∷ []
+
+-- A with other numbers in the tests of its second and third rule, another change in its third, and more rules
+abbrev pub likeA : ℕ → ℕ → ℕ → List ℕ → List ℕ
+likeA R n ch more = policy 1 1 R (2 ∷ ruleOf 1 1 0 0 0 0 ++ ruleOf 2 1 0 0 n 1 ++ ruleOf 2 0 0 n 0 ch ++ more ++ (2 ∷ []))
+
+abbrev pub policyA : List ℕ
+policyA = likeA 3 2 0 []
+
+abbrev pub policyB : List ℕ
+policyB = likeA 3 1 0 []
+
+abbrev pub policyC : List ℕ
+policyC = likeA 4 2 0 (ruleOf 2 0 0 5 0 0)
+
+abbrev pub policyD : List ℕ
+policyD = likeA 4 2 1 (ruleOf 2 0 0 4 0 0)
+
+-- E, its last rule at a level
+abbrev pub policyE : ℕ → List ℕ
+policyE l = likeA 4 2 0 (ruleOf 1 0 l 2 0 0)
+
+abbrev pub policyF : List ℕ
+policyF = policy 1 1 2 (2 ∷ ruleOf 1 1 0 0 0 0 ++ ruleOf 2 1 0 0 2 1 ++ (2 ∷ []))
+
+-- G, with events
+abbrev pub likeG : ℕ → List ℕ → List ℕ
+likeG E changes = policy E 1 1 (2 ∷ ruleOf 3 1 0 0 1 1 ++ changes)
+
+abbrev pub policyG : List ℕ
+policyG = likeG 0 []
+
+abbrev pub policyJ : List ℕ
+policyJ = likeG 1 (2 ∷ [])
+
+abbrev pub policyH : List ℕ
+policyH = policy 0 1 2 (1 ∷ ruleOf 1 1 0 0 1 0 ++ ruleOf 1 1 0 0 1 1)
+
+-- S, its lt 6 as another number
+abbrev pub policyS : ℕ → List ℕ
+policyS n = policy 0 1 3 (2 ∷ ruleOf 3 1 0 0 1 0 ++ ruleOf 1 1 0 0 1 1 ++ ruleOf 3 1 0 1 n 1)
+
+-- the greater level accepts and changes nothing, a lower one accepts and adds one: only the greater applies below 1
+abbrev pub policyL : List ℕ
+policyL = policy 0 1 3 (1 ∷ ruleOf 1 1 1 0 1 0 ++ ruleOf 1 1 0 0 1 1 ++ ruleOf 1 0 0 1 0 0)
+
+abbrev pub bookA : List ℕ
+bookA =
+    0x42 ∷ 0x4F ∷ 0x4B ∷ 0 ∷ 1 ∷ 1 ∷ 1 ∷ 2 ∷ 0 ∷ 0 ∷ 0 ∷ 3
+    ∷ 1 ∷ 1 ∷ 0 ∷ 2 ∷ 0
+    ∷ 1 ∷ 2 ∷ 0 ∷ 3 ∷ 0
+    ∷ 1 ∷ 3 ∷ 0 ∷ 0 ∷ 3 ∷ []
+
+-- a lent buffer of n bytes
+abbrev pub lent : ℕ → List ℕ
+lent n = replicate n 7
+
+-- ---- findings
+abbrev pub after : ℕ → History → Found
+after r h = record { request = r; history = h }
+
+abbrev pub noFindings : Findings
+noFindings = record { conflict = none; missing = none; blocked = none }
+
+abbrev pub conflictAfter : ℕ → History → Findings
+conflictAfter r h = record { conflict = some (after r h); missing = none; blocked = none }
+
+abbrev pub missingAfter : ℕ → History → Findings
+missingAfter r h = record { conflict = none; missing = some (after r h); blocked = none }
+
+abbrev pub missingAndBlockedAfter : ℕ → History → Findings
+missingAndBlockedAfter r h = record { conflict = none; missing = some (after r h); blocked = some h }

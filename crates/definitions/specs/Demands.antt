@@ -1,0 +1,107 @@
+-- The owner's demands 2 and 3, and what verdict and compare owe for any book, as statements about histories. proofs/Demands.antt proves each.
+-- A reader who believes the definitions and these statements needs to believe nothing else.
+use mathlib.Core.Path.{_≡_}
+use mathlib.Core.Bool.{Bool, true, false}
+use mathlib.Core.Logic.{_↔_}
+use mathlib.Core.List.{List, [], _∷_, _++_}
+use mathlib.Core.Option.{Option, none, some}
+use Prim.Native.Nat.{ℕ, _+_, _*_, _≤_, _<_}
+use lib.ListN.{length, getD}
+use Rattle.automaton.specs.History.{History, Earliest}
+use Rattle.automaton.specs.Machine.{Machine, possible, inOne}
+use Rattle.definitions.specs.Policy as P
+use Rattle.definitions.specs.Situation.{acceptCode, rejectCode, policyMachine}
+use Rattle.definitions.specs.Book as B
+use Rattle.definitions.specs.Refusal.{bookRefusal}
+use Rattle.definitions.specs.Build.{bookOf}
+use Rattle.definitions.specs.Verdict.{Found, conflict, missing, blocked}
+use Rattle.definitions.specs.Compare.{comparison}
+
+-- ---- what may happen after a history h in a machine m (a policy's or a book's) with E events and Q requests
+
+-- request r may be accepted, or not
+abbrev pub accepts : Machine → ℕ → History → ℕ → Bool
+accepts m E h r = possible m (h ++ (acceptCode E r ∷ []))
+
+abbrev pub rejects : Machine → ℕ → History → ℕ → Bool
+rejects m E h r = possible m (h ++ (rejectCode E r ∷ []))
+
+-- "some request may be both accepted and rejected"
+abbrev pub ConflictAfter : Machine → ℕ → History → ℕ → Type 0
+ConflictAfter m E h r = (accepts m E h r ≡ true) × (rejects m E h r ≡ true)
+
+abbrev pub Unanswered : Machine → ℕ → History → ℕ → Type 0
+Unanswered m E h r = (accepts m E h r ≡ false) × (rejects m E h r ≡ false)
+
+-- "some request is unanswered"
+abbrev pub MissingAfter : Machine → ℕ → History → ℕ → Type 0
+MissingAfter m E h r = (possible m h ≡ true) × Unanswered m E h r
+
+-- a list of events
+abbrev pub Events : ℕ → History → Type 0
+Events E es = (i : ℕ) → i < length es → getD es i 0 < E
+
+-- "no request is answered, now or after any list of events"
+abbrev pub BlockedAfter : Machine → ℕ → ℕ → History → Type 0
+BlockedAfter m E Q h = (possible m h ≡ true) × ((es : History) → Events E es → (r : ℕ) → r < Q → Unanswered m E (h ++ es) r)
+
+-- ---- findings: "none", said exactly where there is no such history, "or the earliest such history and the lowest such request"
+pub record FindingIsRight (After : History → ℕ → Type 0) (Q : ℕ) (finding : Option Found) : Type 0 where
+  pub no-history : finding ≡ none → (h : History) (r : ℕ) → r < Q → After h r → ⊥
+  pub earliest : (t : Found) → finding ≡ some t → Earliest (λ h. (r : ℕ) × (r < Q) × After h r) (t .history)
+  pub request : (t : Found) → finding ≡ some t → (t .request < Q) × After (t .history) (t .request)
+  pub lowest : (t : Found) → finding ≡ some t → (r : ℕ) → r < Q → After (t .history) r → t .request ≤ r
+
+pub record BlockingIsRight (After : History → Type 0) (finding : Option History) : Type 0 where
+  pub no-history : finding ≡ none → (h : History) → After h → ⊥
+  pub earliest : (h : History) → finding ≡ some h → Earliest After h
+
+-- the three findings on a book b are those over all histories possible in a machine m
+pub record FindingsAreRight (m : Machine) (b : List ℕ) : Type 0 where
+  pub conflict-right : FindingIsRight (ConflictAfter m (B.events b)) (B.requests b) (conflict b)
+  pub missing-right : FindingIsRight (MissingAfter m (B.events b)) (B.requests b) (missing b)
+  pub blocked-right : BlockingIsRight (BlockedAfter m (B.events b) (B.requests b)) (blocked b)
+
+-- ---- "Two accepted policies ..": the histories possible in two machines
+abbrev pub SameHistories : Machine → Machine → Type 0
+SameHistories m k = (h : History) → possible m h ≡ possible k h
+
+abbrev pub InJustOne : Machine → Machine → History → Type 0
+InJustOne m k h = inOne (possible m h) (possible k h) ≡ true
+
+-- the answer of a comparison: same exactly when the same histories are possible in m and k, and else the earliest history possible in just one
+pub record ComparisonIsRight (m k : Machine) (answer : Option History) : Type 0 where
+  pub same : (answer ≡ none) ↔ SameHistories m k
+  pub differ : (h : History) → answer ≡ some h → Earliest (InJustOne m k) h
+
+-- ---- demand 2, for an accepted policy
+pub record Demand2 (p : List ℕ) : Type 0 where
+  -- "For every history, it is possible in the book exactly when it is possible under the policy"
+  pub histories : SameHistories (B.bookMachine (bookOf p)) (policyMachine p)
+  -- "The findings on conflict, completeness and blocking are right, each bad one with the earliest history that proves it"
+  pub findings : FindingsAreRight (policyMachine p) (bookOf p)
+  -- the book is one that every check passes, with the policy's frame
+  pub passes : bookRefusal (bookOf p) ≡ 0
+  pub frame : B.frame (bookOf p) ≡ P.frame p
+  pub size : length (bookOf p) ≡ 12 + B.states (bookOf p) * B.width (bookOf p)
+  pub states : (1 ≤ B.states (bookOf p)) × (B.states (bookOf p) ≤ 127)
+
+-- ---- demand 3, for two accepted policies
+pub record Demand3 (p q : List ℕ) : Type 0 where
+  -- "books equal byte for byte exactly when their frames are equal and every history, however long, is possible under both or under neither"
+  pub books : (bookOf p ≡ bookOf q) ↔ ((P.frame p ≡ P.frame q) × SameHistories (policyMachine p) (policyMachine q))
+  -- "Comparing two books says same exactly then, and else shows the earliest history possible in just one"
+  pub compared : P.frame p ≡ P.frame q → ComparisonIsRight (policyMachine p) (policyMachine q) (comparison (bookOf p) (bookOf q))
+
+-- ---- what verdict and compare owe for any books that rows 12 to 14 let pass, built here or not
+pub record VerdictIsRight (b : List ℕ) : Type 0 where
+  pub findings : FindingsAreRight (B.bookMachine b) b
+  -- "Histories go into three buffers, at most n − 1 codes each"
+  pub conflict-short : (t : Found) → conflict b ≡ some t → length (t .history) < B.states b
+  pub missing-short : (t : Found) → missing b ≡ some t → length (t .history) < B.states b
+  pub blocked-short : (h : History) → blocked b ≡ some h → length h < B.states b
+
+pub record CompareIsRight (b d : List ℕ) : Type 0 where
+  pub compared : ComparisonIsRight (B.bookMachine b) (B.bookMachine d) (comparison b d)
+  -- "with its length: 1 to n + n' − 1"
+  pub short : (h : History) → comparison b d ≡ some h → (1 ≤ length h) × (length h < B.states b + B.states d)

@@ -1,0 +1,13 @@
+pub mod Answer
+pub mod Bytes
+pub mod Policy
+pub mod Valuation
+pub mod Situation
+pub mod Book
+pub mod Refusal
+pub mod Build
+pub mod Verdict
+pub mod Compare
+pub mod Opened
+pub mod Cases
+pub mod Demands

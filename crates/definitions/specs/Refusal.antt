@@ -1,0 +1,153 @@
+-- "Where input is turned down": the number of "the lowest row that fits", 0 if none does. Each row is judged only where those before it do not fit.
+use mathlib.Core.Path.{_≡_}
+use mathlib.Core.Bool.{Bool, cond, not, _&&_, _||_}
+use mathlib.Core.List.{List}
+use Prim.Native.Nat.{ℕ, suc, _+_, _*_, _^_}
+use lib.Dec.{leb, ltb, eqb}
+use lib.ListN.{length}
+use Rattle.automaton.specs.Below.{allBelow, sameList}
+use Rattle.automaton.specs.Explore.{Reached, reached}
+use Rattle.definitions.specs.Answer.{judge, thenJudge}
+use Rattle.definitions.specs.Bytes.{hasMark, hasVersion1, within}
+use Rattle.definitions.specs.Policy.{events, fields, variables, rules, count, requests, exactLength, rule, mask, decision, ge, lt, change, eventChange}
+use Rattle.definitions.specs.Valuation.{valuations}
+use Rattle.definitions.specs.Situation.{policyMachine}
+use Rattle.definitions.specs.Book as B
+
+-- ---- policies: rows 2 to 11
+
+abbrev pub rangesHold : List ℕ → Bool
+rangesHold p = leb (events p) 8 && within 1 (fields p) 4 && leb (variables p) 4 && within 1 (rules p) 32
+
+abbrev pub countInRange : List ℕ → ℕ → Bool
+countInRange p f = within 1 (count p f) 16
+
+abbrev pub countsHold : List ℕ → Bool
+countsHold p = allBelow (fields p) (countInRange p) && leb (requests p) 64
+
+-- "A mask has at least one bit set and none at or above its field's count"
+abbrev pub maskHolds : List ℕ → ℕ → ℕ → Bool
+maskHolds p k f = leb 1 (mask (rule p k) f) && ltb (mask (rule p k) f) (2 ^ count p f)
+
+abbrev pub ruleMasksHold : List ℕ → ℕ → Bool
+ruleMasksHold p k = allBelow (fields p) (maskHolds p k)
+
+abbrev pub masksHold : List ℕ → Bool
+masksHold p = allBelow (rules p) (ruleMasksHold p)
+
+-- "decision (0 reject, 1 accept)"; "ge and lt are 0 to 63"; "Change is 0 none, 1 add one, 2 set to zero"
+abbrev pub testHolds : List ℕ → ℕ → ℕ → Bool
+testHolds p k j = leb (ge p (rule p k) j) 63 && leb (lt p (rule p k) j) 63 && leb (change p (rule p k) j) 2
+
+abbrev pub ruleHolds : List ℕ → ℕ → Bool
+ruleHolds p k = leb (decision p (rule p k)) 1 && allBelow (variables p) (testHolds p k)
+
+abbrev pub eventChangeHolds : List ℕ → ℕ → ℕ → Bool
+eventChangeHolds p e j = leb (eventChange p e j) 2
+
+abbrev pub eventHolds : List ℕ → ℕ → Bool
+eventHolds p e = allBelow (variables p) (eventChangeHolds p e)
+
+abbrev pub valuesHold : List ℕ → Bool
+valuesHold p = allBelow (rules p) (ruleHolds p) && allBelow (events p) (eventHolds p)
+
+-- "over 64 valuations"
+unfoldable pub row10 : List ℕ → ℕ
+row10 p = judge 10 (leb (valuations p) 64) 0
+
+-- "a decision, test or change outside its values"
+unfoldable pub row9 : List ℕ → ℕ
+unfolding row10
+row9 p = judge 9 (valuesHold p) (row10 p)
+
+-- "a mask"
+unfoldable pub row8 : List ℕ → ℕ
+unfolding row9
+row8 p = judge 8 (masksHold p) (row9 p)
+
+-- "a value count outside 1 to 16, or Q over 64"
+unfoldable pub row7 : List ℕ → ℕ
+unfolding row8
+row7 p = judge 7 (countsHold p) (row8 p)
+
+-- "length"
+unfoldable pub row6 : List ℕ → ℕ
+unfolding row7
+row6 p = judge 6 (eqb (length p) (exactLength p)) (row7 p)
+
+-- "E, F, P or R outside its range"
+unfoldable pub row5 : List ℕ → ℕ
+unfolding row6
+row5 p = judge 5 (rangesHold p) (row6 p)
+
+-- "version"
+unfoldable pub row4 : List ℕ → ℕ
+unfolding row5
+row4 p = judge 4 (hasVersion1 p) (row5 p)
+
+-- "mark POL"
+unfoldable pub row3 : List ℕ → ℕ
+unfolding row4
+row3 p = judge 3 (hasMark 0x50 0x4F 0x4C p) (row4 p)
+
+-- "policy under 9 bytes", and every row up to 10: what the file itself is turned down for
+unfoldable pub fileRefusal : List ℕ → ℕ
+unfolding row3
+fileRefusal p = judge 2 (leb 9 (length p)) (row3 p)
+
+-- the situations reached, "before joining alike ones", in the order of their earliest history: all of them if they are at most 127
+unfoldable pub situations : List ℕ → List Reached
+situations p = reached (policyMachine p) 127
+
+-- "over 127 situations reached"
+unfoldable pub row11 : List ℕ → ℕ
+unfolding situations
+row11 p = judge 11 (leb (length (situations p)) 127) 0
+
+-- rows 2 to 11. "A policy is accepted if no number but 1 turns it down"
+unfoldable pub policyRefusal : List ℕ → ℕ
+unfolding fileRefusal row11
+policyRefusal p = thenJudge (fileRefusal p) (row11 p)
+
+abbrev pub Accepted : List ℕ → Type 0
+Accepted p = policyRefusal p ≡ 0
+
+-- ---- books: rows 12 to 14
+
+-- "a present count outside its range; an absent count not 0"
+abbrev pub countHolds : List ℕ → ℕ → Bool
+countHolds b f = cond (ltb f (B.fields b)) (within 1 (B.count b f) 16) (eqb (B.count b f) 0)
+
+abbrev pub layoutHolds : List ℕ → Bool
+layoutHolds b =
+    leb (B.events b) 8 && within 1 (B.fields b) 4 && allBelow 4 (countHolds b) && leb (B.requests b) 64 && within 1 (B.states b) 127
+    && eqb (length b) (12 + B.states b * B.width b)
+
+-- entry c of row s is at most n, and not 0 for an event
+abbrev pub entryHolds : List ℕ → ℕ → ℕ → Bool
+entryHolds b s c = leb (B.entry b s c) (B.states b) && (leb (B.events b) c || leb 1 (B.entry b s c))
+
+-- row i, counted from 0, which is that of state i + 1
+abbrev pub rowHolds : List ℕ → ℕ → Bool
+rowHolds b i = allBelow (B.width b) (entryHolds b (suc i))
+
+abbrev pub entriesHold : List ℕ → Bool
+entriesHold b = allBelow (B.states b) (rowHolds b)
+
+-- "an entry above n, or 0 for an event"
+unfoldable pub row14 : List ℕ → ℕ
+row14 b = judge 14 (entriesHold b) 0
+
+-- "E, F, a present count, Q or n outside its range; an absent count not 0; length not 12 + n × w"
+unfoldable pub row13 : List ℕ → ℕ
+unfolding row14
+row13 b = judge 13 (layoutHolds b) (row14 b)
+
+-- "book under 12 bytes, mark or version", and every row after it
+unfoldable pub bookRefusal : List ℕ → ℕ
+unfolding row13
+bookRefusal b = judge 12 (leb 12 (length b) && hasMark 0x42 0x4F 0x4B b && hasVersion1 b) (row13 b)
+
+-- "the two frames differ"
+unfoldable pub row15 : List ℕ → List ℕ → ℕ
+row15 b d = judge 15 (sameList (B.frame b) (B.frame d)) 0

@@ -1,0 +1,59 @@
+-- Valuations: "A valuation gives each variable a value from 0 to its bound." A valuation is a number in mixed radix, the first variable lowest.
+use mathlib.Core.Bool.{Bool, cond, true, false}
+use mathlib.Core.List.{List}
+use Prim.Native.Nat.{ℕ, zero, suc, _+_, _*_, _/_, _%_, max}
+use lib.Dec.{ltb}
+use Rattle.automaton.specs.Below.{foldBelow}
+use Rattle.definitions.specs.Bytes.{product}
+use Rattle.definitions.specs.Policy.{variables, rules, rule, ge, lt, change, eventChange}
+
+-- the greater number of a rule's tests of variable j, 0 if there is none
+abbrev pub tested : List ℕ → List ℕ → ℕ → ℕ
+tested p q j = max (ge p q j) (lt p q j)
+
+-- "A variable's bound is the greatest ge or lt that any rule tests it with, 0 if none"
+abbrev pub greatestTested : List ℕ → ℕ → ℕ → ℕ → ℕ
+greatestTested p j k b = max b (tested p (rule p k) j)
+
+abbrev pub bound : List ℕ → ℕ → ℕ
+bound p j = foldBelow (rules p) 0 (greatestTested p j)
+
+-- how many values a variable can have, and what one of variable j is worth in a valuation's number
+abbrev pub valuesOf : List ℕ → ℕ → ℕ
+valuesOf p j = suc (bound p j)
+
+abbrev pub worth : List ℕ → ℕ → ℕ
+worth p j = product j (valuesOf p)
+
+-- how many valuations there are
+abbrev pub valuations : List ℕ → ℕ
+valuations p = worth p (variables p)
+
+-- "the start has all zeros"
+abbrev pub startValuation : ℕ
+startValuation = 0
+
+-- the value of variable j in valuation v
+abbrev pub variableIn : List ℕ → ℕ → ℕ → ℕ
+variableIn p v j = v / worth p j % valuesOf p j
+
+-- "Change is 0 none, 1 add one, 2 set to zero"; "Adding one at the bound changes nothing"
+abbrev pub changed : ℕ → ℕ → ℕ → ℕ
+changed zero most x = x
+changed (suc zero) most x = cond (ltb x most) (suc x) x
+changed (suc (suc n)) most x = 0
+
+-- the valuation in which each variable of v has been changed
+abbrev pub withChanged : List ℕ → (ℕ → ℕ) → ℕ → ℕ → ℕ → ℕ
+withChanged p changes v j u = u + changed (changes j) (bound p j) (variableIn p v j) * worth p j
+
+abbrev pub carriedOut : List ℕ → (ℕ → ℕ) → ℕ → ℕ
+carriedOut p changes v = foldBelow (variables p) 0 (withChanged p changes v)
+
+-- the valuation that carrying out rule k leads to from v
+abbrev pub byRule : List ℕ → ℕ → ℕ → ℕ
+byRule p k v = carriedOut p (change p (rule p k)) v
+
+-- the valuation that event e leads to from v
+abbrev pub byEvent : List ℕ → ℕ → ℕ → ℕ
+byEvent p e v = carriedOut p (eventChange p e) v
