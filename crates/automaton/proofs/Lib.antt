@@ -10,3 +10,4 @@ pub mod Joined
 pub mod Tidy
 pub mod Tables
 pub mod Minimal
+pub mod Cases

@@ -5,4 +5,3 @@ pub mod Explore
 pub mod Table
 pub mod Join
 pub mod Pair
-pub mod Cases

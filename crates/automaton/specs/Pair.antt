@@ -1,6 +1,6 @@
 -- Two machines of one width side by side (their product), and the earliest history that is possible in just one of them.
 use mathlib.Core.Bool.{Bool}
-use mathlib.Core.List.{List, [], _∷_, _++_}
+use mathlib.Core.List.{[], _∷_, _++_}
 use mathlib.Core.Option.{Option, none, some}
 use Prim.Native.Nat.{ℕ, zero, suc, _+_, _*_, _/_, _%_}
 use Rattle.automaton.specs.Below.{anyBelow, lowestBelow}

@@ -1,6 +1,6 @@
 -- Every case of the table holds: one computation finds no case that fails, and each entry's equation follows.
 use mathlib.Core.Path.{_≡_, refl, ap, sym, _∙_}
-use mathlib.Core.Bool.{Bool, true, false, not, false≢true}
+use mathlib.Core.Bool.{Bool, true, false, not, Bool·beq, false≢true}
 use mathlib.Core.List.{List, [], _∷_}
 use mathlib.Core.Option.{Option, none, some}
 use Prim.Native.Nat.{ℕ, zero, suc, _<_}
@@ -15,19 +15,26 @@ use Rattle.definitions.specs.Build.{bookOf, bookRows, buildAnswer, build
 use Rattle.definitions.specs.Verdict.{Found, Findings, findings, verdictAnswer, verdictBuffers}
 use Rattle.definitions.specs.Compare.{comparison, compareAnswer, compareBuffer}
 use Rattle.definitions.specs.Opened.{Telling, none as untold, accept, reject, both, openAnswer, tellAnswer, stepRefusal, stepState}
+use Rattle.definitions.specs.Shelf.{shelfText}
 use Rattle.definitions.specs.Cases.Table.{cases}
 use Rattle.definitions.specs.Cases.Samples.{policyA, bookA}
-use Rattle.definitions.specs.Cases.Claim.{Claim, number, bytes, rows, found, history, builds, finds, compares, tells, Holds, test, sameRows, sameOption, sameAnswer, sameFound, sameFindings, tellingNumber, sameTelling}
+use Rattle.definitions.specs.Cases.Claim.{Claim, number, says, bytes, rows, found, history, builds, finds, compares, tells, Holds, test, sameRows, sameOption, sameAnswer, sameFound, sameFindings, tellingNumber, sameTelling}
 
 abbrev fails : Claim → Bool
 fails claim = not (test claim)
 
 -- the number of the first case that fails is 0: none does
 none-fails : placeOf fails cases ≡ 0
-unfolding bookOf bookRows situations findings comparison policyRefusal bookRefusal buildAnswer buildBuffer verdictAnswer verdictBuffers compareAnswer compareBuffer openAnswer tellAnswer stepRefusal stepState
+unfolding bookOf bookRows situations findings comparison policyRefusal bookRefusal buildAnswer buildBuffer verdictAnswer verdictBuffers compareAnswer compareBuffer openAnswer tellAnswer stepRefusal stepState shelfText
 none-fails = refl
 
 -- ---- what passes a test is equal
+same-bool-true : (x y : Bool) → Bool·beq x y ≡ true → x ≡ y
+same-bool-true true true e = refl
+same-bool-true true false e = absurd (false≢true e)
+same-bool-true false true e = absurd (false≢true e)
+same-bool-true false false e = refl
+
 same-rows-true : (xs ys : List (List ℕ)) → sameRows xs ys ≡ true → xs ≡ ys
 same-rows-true [] [] e = refl
 same-rows-true [] (y ∷ ys) e = absurd (false≢true e)
@@ -86,6 +93,7 @@ same-telling-true x y e = sym (numbered-telling x) ∙ ap numbered (eqb-true (te
 
 passed : (claim : Claim) → test claim ≡ true → Holds claim
 passed (number x y) e = eqb-true x y e
+passed (says x y) e = same-bool-true x y e
 passed (bytes x y) e = same-list-true x y e
 passed (rows x y) e = same-rows-true x y e
 passed (found x y) e = same-findings-true x y e

@@ -9,5 +9,6 @@ pub mod Build
 pub mod Verdict
 pub mod Compare
 pub mod Opened
+pub mod Shelf
 pub mod Cases
 pub mod Demands

@@ -2,7 +2,7 @@
 use mathlib.Core.Bool.{Bool, cond, true, false, _&&_}
 use mathlib.Core.List.{List, [], _∷_}
 use Prim.Native.Nat.{ℕ}
-use lib.Dec.{ltb, leb, eqb}
+use lib.Dec.{ltb, eqb}
 use Rattle.automaton.specs.History.{History}
 use Rattle.automaton.specs.Machine.{step, isState}
 use Rattle.definitions.specs.Answer.{judge, thenJudge, Answer, answer}

@@ -1,6 +1,6 @@
 -- "Where input is turned down": the number of "the lowest row that fits", 0 if none does. Each row is judged only where those before it do not fit.
 use mathlib.Core.Path.{_≡_}
-use mathlib.Core.Bool.{Bool, cond, not, _&&_, _||_}
+use mathlib.Core.Bool.{Bool, cond, _&&_, _||_}
 use mathlib.Core.List.{List}
 use Prim.Native.Nat.{ℕ, suc, _+_, _*_, _^_}
 use lib.Dec.{leb, ltb, eqb}

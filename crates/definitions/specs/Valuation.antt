@@ -1,5 +1,5 @@
 -- Valuations: "A valuation gives each variable a value from 0 to its bound." A valuation is a number in mixed radix, the first variable lowest.
-use mathlib.Core.Bool.{Bool, cond, true, false}
+use mathlib.Core.Bool.{cond}
 use mathlib.Core.List.{List}
 use Prim.Native.Nat.{ℕ, zero, suc, _+_, _*_, _/_, _%_, max}
 use lib.Dec.{ltb}

@@ -1,14 +1,15 @@
 -- What calls give and what their buffers hold afterwards, where nothing is refused and where something is; and walks of an opened book.
+use mathlib.Core.Bool.{true, false}
 use mathlib.Core.List.{List, [], _∷_, _++_}
 use mathlib.Core.Option.{none}
 use lib.ListN.{length, take}
 use Rattle.definitions.specs.Answer.{given}
 use Rattle.definitions.specs.Build.{bookOf, buildAnswer, buildBuffer}
 use Rattle.definitions.specs.Verdict.{verdictAnswer, verdictBuffers}
-use Rattle.definitions.specs.Compare.{compareAnswer, compareBuffer}
+use Rattle.definitions.specs.Compare.{sameBytes, compareAnswer, compareBuffer}
 use Rattle.definitions.specs.Opened.{openAnswer, tellAnswer, walkState, walkHistory, none as untold, accept, reject, both}
-use Rattle.definitions.specs.Cases.Claim.{Claim, number, bytes, builds, finds, compares, tells}
-use Rattle.definitions.specs.Cases.Samples.{policyA, policyB, policyE, policyG, policyH, bookA, noFindings, lent}
+use Rattle.definitions.specs.Cases.Claim.{Claim, number, says, bytes, builds, finds, compares, tells}
+use Rattle.definitions.specs.Cases.Samples.{policyA, policyB, policyC, policyE, policyG, policyH, bookA, noFindings, lent}
 
 abbrev pub callCases : List Claim
 callCases =
@@ -26,6 +27,10 @@ callCases =
     ∷ bytes (compareBuffer bookA bookA (lent 256)) (lent 256)
     ∷ bytes (compareBuffer bookA (bookOf policyB) (lent 256)) (3 ∷ 3 ∷ lent 254)
     ∷ bytes (compareBuffer bookA (bookOf policyH) (lent 256)) (lent 256)
+    -- "books or not"
+    ∷ says (sameBytes (bookOf policyC) bookA) true
+    ∷ says (sameBytes bookA (take 26 bookA)) false
+    ∷ says (sameBytes [] []) true
     ∷ builds (openAnswer bookA) (given 1)
     ∷ tells (tellAnswer bookA 1 1) (given accept)
     ∷ tells (tellAnswer bookA 3 1) (given reject)

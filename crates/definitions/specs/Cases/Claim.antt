@@ -1,6 +1,6 @@
 -- A claim: an equation between what a definition gives and what it should give, with a test that computes whether it holds.
 use mathlib.Core.Path.{_≡_}
-use mathlib.Core.Bool.{Bool, true, false, _&&_}
+use mathlib.Core.Bool.{Bool, true, false, _&&_, Bool·beq}
 use mathlib.Core.List.{List, [], _∷_}
 use mathlib.Core.Option.{Option, none, some}
 use Prim.Native.Nat.{ℕ}
@@ -13,6 +13,7 @@ use Rattle.definitions.specs.Opened.{Telling, none as untold, accept, re
 
 pub data Claim : Type 0 where
   number : ℕ → ℕ → Claim
+  says : Bool → Bool → Claim
   bytes : List ℕ → List ℕ → Claim
   rows : List (List ℕ) → List (List ℕ) → Claim
   found : Findings → Findings → Claim
@@ -25,6 +26,7 @@ pub data Claim : Type 0 where
 -- what a claim says
 abbrev pub Holds : Claim → Type 0
 Holds (number x y) = x ≡ y
+Holds (says x y) = x ≡ y
 Holds (bytes x y) = x ≡ y
 Holds (rows x y) = x ≡ y
 Holds (found x y) = x ≡ y
@@ -71,6 +73,7 @@ sameTelling x y = eqb (tellingNumber x) (tellingNumber y)
 
 abbrev pub test : Claim → Bool
 test (number x y) = eqb x y
+test (says x y) = Bool·beq x y
 test (bytes x y) = sameList x y
 test (rows x y) = sameRows x y
 test (found x y) = sameFindings x y

@@ -1,13 +1,27 @@
 -- Document 01's "Cases to be proved", row by row, with one case more for its first trainee error.
-use mathlib.Core.List.{List, [], _∷_}
+use mathlib.Core.List.{List, [], _∷_, _++_}
 use mathlib.Core.Option.{none, some}
-use lib.ListN.{length}
+use Prim.Native.Nat.{ℕ}
+use lib.ListN.{length, set, replicate}
 use Rattle.definitions.specs.Refusal.{policyRefusal, situations}
 use Rattle.definitions.specs.Build.{bookOf, bookRows}
 use Rattle.definitions.specs.Verdict.{findings}
 use Rattle.definitions.specs.Compare.{comparison}
+use Rattle.definitions.specs.Shelf.{shelfText}
 use Rattle.definitions.specs.Cases.Claim.{Claim, number, bytes, rows, found, history}
 use Rattle.definitions.specs.Cases.Samples.{policyA, policyB, policyC, policyD, policyE, policyF, policyG, policyJ, policyH, policyS, policyL, bookA, noFindings, conflictAfter, missingAfter, missingAndBlockedAfter}
+
+-- "states 3", "conflict 0 2 3 3", "missing -", "blocked -"
+abbrev textE : List ℕ
+textE =
+    115 ∷ 116 ∷ 97 ∷ 116 ∷ 101 ∷ 115 ∷ 32 ∷ 51 ∷ 10
+    ∷ 99 ∷ 111 ∷ 110 ∷ 102 ∷ 108 ∷ 105 ∷ 99 ∷ 116 ∷ 32 ∷ 48 ∷ 32 ∷ 50 ∷ 32 ∷ 51 ∷ 32 ∷ 51 ∷ 10
+    ∷ 109 ∷ 105 ∷ 115 ∷ 115 ∷ 105 ∷ 110 ∷ 103 ∷ 32 ∷ 45 ∷ 10
+    ∷ 98 ∷ 108 ∷ 111 ∷ 99 ∷ 107 ∷ 101 ∷ 100 ∷ 32 ∷ 45 ∷ 10 ∷ []
+
+-- "refused 5"
+abbrev textRefused : List ℕ
+textRefused = 114 ∷ 101 ∷ 102 ∷ 117 ∷ 115 ∷ 101 ∷ 100 ∷ 32 ∷ 53 ∷ 10 ∷ []
 
 abbrev pub documentCases : List Claim
 documentCases =
@@ -26,6 +40,10 @@ documentCases =
     -- E, and at level 1
     ∷ found (findings (bookOf (policyE 0))) (conflictAfter 0 (3 ∷ 3 ∷ []))
     ∷ found (findings (bookOf (policyE 1))) noFindings
+    -- the program shelf on E, on a bad file, and on a long one
+    ∷ bytes (shelfText (policyE 0)) textE
+    ∷ bytes (shelfText (set policyA 6 5)) textRefused
+    ∷ bytes (shelfText (set policyA 6 5 ++ replicate 1024 0)) textRefused
     -- F
     ∷ found (findings (bookOf policyF)) (missingAfter 1 (3 ∷ 3 ∷ []))
     -- G
