@@ -10,4 +10,9 @@ pub mod Joined
 pub mod Tidy
 pub mod Tables
 pub mod Minimal
+pub mod Parents
+pub mod Labels
+pub mod Separating
+pub mod Comparing
+pub mod Pairs
 pub mod Cases
