@@ -1,1 +1,16 @@
 pub mod Cases
+pub mod Tests
+pub mod Radix
+pub mod Requests
+pub mod Valuations
+pub mod Sets
+pub mod Steps
+pub mod Accepted
+pub mod BookBytes
+pub mod BookSteps
+pub mod Blocking
+pub mod Verdicts
+pub mod Comparisons
+pub mod SameHistories
+pub mod Built
+pub mod Demands

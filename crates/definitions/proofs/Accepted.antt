@@ -1,0 +1,291 @@
+-- What acceptance gives: the plain facts about a policy that is not turned down, and about a book that the checks pass, for which they are also enough.
+-- Records and rows lie within files of the exact length.
+use mathlib.Core.Path.{_≡_, refl}
+use mathlib.Core.Bool.{true, _&&_, _||_}
+use mathlib.Core.Logic.{_↔_, _⊎_, inl, inr}
+use mathlib.Core.List.{List}
+use Prim.Native.Nat.{ℕ, zero, suc, _+_, _-_, _*_, _^_, _≤_, _<_}
+use native.Mathlib.Nat.{mul-le-mul-right, suc-mul}
+use native.Mathlib.Omega.{arith}
+use native.Mathlib.Decide.{decLt}
+use lib.Dec.{leb, eqb}
+use lib.ListN.{length}
+use borrow.Author.Tests.{leb-true, ltb-true, eqb-true, le-leb, lt-leb, lt-ltb, le-ltb, eq-eqb}
+use Rattle.automaton.specs.Below.{allBelow}
+use Rattle.automaton.proofs.Counting.{and-true, or-true, all-below, all-below-at}
+use Rattle.definitions.specs.Bytes.{byte, hasMark, hasVersion1}
+use Rattle.definitions.specs.Policy.{events, fields, variables, rules, count, requests, width, ruleSize, exactLength, rule, mask, decision, ge, lt, change, eventChange}
+use Rattle.definitions.specs.Valuation.{valuations}
+use Rattle.definitions.specs.Book as B
+use Rattle.definitions.specs.Refusal.{rangesHold, countInRange, countsHold, maskHolds, ruleMasksHold, masksHold, testHolds, ruleHolds, eventChangeHolds, eventHolds, valuesHold, row10, row9, row8, row7, row6, row5, row4, row3, fileRefusal, situations, row11, policyRefusal, countHolds, layoutHolds, entryHolds, rowHolds, entriesHold, row14, row13, bookRefusal}
+use Rattle.definitions.proofs.Tests.{both-true, judge-zero, then-judge-zero, within-true, mark-true, version-true}
+use Rattle.definitions.proofs.Radix.{product-some}
+use Rattle.definitions.proofs.Requests.{some-request}
+use Rattle.definitions.proofs.Valuations.{some-valuation}
+
+-- a policy file that rows 2 to 10 do not turn down
+pub record FileAccepted (p : List ℕ) : Type 0 where
+  pub long : 9 ≤ length p
+  pub mark : (byte p 0 ≡ 0x50) × (byte p 1 ≡ 0x4F) × (byte p 2 ≡ 0x4C)
+  pub version : (byte p 3 ≡ 0) × (byte p 4 ≡ 1)
+  pub eventsMost : events p ≤ 8
+  pub fieldsSome : 1 ≤ fields p
+  pub fieldsMost : fields p ≤ 4
+  pub variablesMost : variables p ≤ 4
+  pub rulesSome : 1 ≤ rules p
+  pub rulesMost : rules p ≤ 32
+  pub exact : length p ≡ exactLength p
+  pub countSome : (f : ℕ) → f < fields p → 1 ≤ count p f
+  pub countMost : (f : ℕ) → f < fields p → count p f ≤ 16
+  pub requestsSome : 1 ≤ requests p
+  pub requestsMost : requests p ≤ 64
+  pub widthMost : width p ≤ 136
+  pub maskSome : (k f : ℕ) → k < rules p → f < fields p → 1 ≤ mask (rule p k) f
+  pub maskMost : (k f : ℕ) → k < rules p → f < fields p → mask (rule p k) f < 2 ^ count p f
+  pub decisionMost : (k : ℕ) → k < rules p → decision p (rule p k) ≤ 1
+  pub geMost : (k j : ℕ) → k < rules p → j < variables p → ge p (rule p k) j ≤ 63
+  pub ltMost : (k j : ℕ) → k < rules p → j < variables p → lt p (rule p k) j ≤ 63
+  pub changeMost : (k j : ℕ) → k < rules p → j < variables p → change p (rule p k) j ≤ 2
+  pub eventChangeMost : (e j : ℕ) → e < events p → j < variables p → eventChange p e j ≤ 2
+  pub valuationsSome : 1 ≤ valuations p
+  pub valuationsMost : valuations p ≤ 64
+
+-- an accepted policy
+pub record PolicyAccepted (p : List ℕ) : Type 0 where
+  pub file : FileAccepted p
+  pub situationsMost : length (situations p) ≤ 127
+
+-- a book that row 13 does not turn down
+pub record BookLayout (b : List ℕ) : Type 0 where
+  pub eventsMost : B.events b ≤ 8
+  pub fieldsSome : 1 ≤ B.fields b
+  pub fieldsMost : B.fields b ≤ 4
+  pub countSome : (f : ℕ) → f < B.fields b → 1 ≤ B.count b f
+  pub countMost : (f : ℕ) → f < B.fields b → B.count b f ≤ 16
+  pub countAbsent : (f : ℕ) → B.fields b ≤ f → f < 4 → B.count b f ≡ 0
+  pub requestsSome : 1 ≤ B.requests b
+  pub requestsMost : B.requests b ≤ 64
+  pub widthMost : B.width b ≤ 136
+  pub statesSome : 1 ≤ B.states b
+  pub statesMost : B.states b ≤ 127
+  pub exact : length b ≡ 12 + B.states b * B.width b
+
+-- a book that rows 12 to 14 do not turn down
+pub record BookPassed (b : List ℕ) : Type 0 where
+  pub long : 12 ≤ length b
+  pub mark : (byte b 0 ≡ 0x42) × (byte b 1 ≡ 0x4F) × (byte b 2 ≡ 0x4B)
+  pub version : (byte b 3 ≡ 0) × (byte b 4 ≡ 1)
+  pub layout : BookLayout b
+  pub entryMost : (s c : ℕ) → 1 ≤ s → s ≤ B.states b → c < B.width b → B.entry b s c ≤ B.states b
+  pub eventEntrySome : (s c : ℕ) → 1 ≤ s → s ≤ B.states b → c < B.events b → 1 ≤ B.entry b s c
+
+-- ---- policies
+module _ (p : List ℕ) where
+  -- ---- what the tests of rows 5 to 9 say
+  pub ranges-true : rangesHold p ≡ true → (events p ≤ 8) × (1 ≤ fields p) × (fields p ≤ 4) × (variables p ≤ 4) × (1 ≤ rules p) × (rules p ≤ 32)
+  ranges-true e =
+      let three = and-true _ _ e in
+      let two = and-true _ _ (three .0) in
+      let one = and-true _ _ (two .0) in
+      let f = within-true 1 (fields p) 4 .0 (one .1) in
+      let r = within-true 1 (rules p) 32 .0 (three .1) in
+      (leb-true (events p) 8 (one .0), f .0, f .1, leb-true (variables p) 4 (two .1), r .0, r .1)
+
+  pub counts-true : countsHold p ≡ true → ((f : ℕ) → f < fields p → (1 ≤ count p f) × (count p f ≤ 16)) × (requests p ≤ 64)
+  counts-true e =
+      let both = and-true _ _ e in
+      (λ f l. within-true 1 (count p f) 16 .0 (all-below-at (countInRange p) (fields p) (both .0) f l), leb-true (requests p) 64 (both .1))
+
+  pub masks-true : masksHold p ≡ true → (k f : ℕ) → k < rules p → f < fields p → (1 ≤ mask (rule p k) f) × (mask (rule p k) f < 2 ^ count p f)
+  masks-true e k f lk lf =
+      let holds = all-below-at (maskHolds p k) (fields p) (all-below-at (ruleMasksHold p) (rules p) e k lk) f lf in
+      let both = and-true _ _ holds in
+      (leb-true 1 (mask (rule p k) f) (both .0), ltb-true (mask (rule p k) f) (2 ^ count p f) (both .1))
+
+  pub rule-true : valuesHold p ≡ true → (k : ℕ) → k < rules p → (decision p (rule p k) ≤ 1)
+      × ((j : ℕ) → j < variables p → (ge p (rule p k) j ≤ 63) × (lt p (rule p k) j ≤ 63) × (change p (rule p k) j ≤ 2))
+  rule-true e k l = (leb-true (decision p (rule p k)) 1 (holds .0), test)
+    where
+      holds : (leb (decision p (rule p k)) 1 ≡ true) × (allBelow (variables p) (testHolds p k) ≡ true)
+      holds = and-true _ _ (all-below-at (ruleHolds p) (rules p) (and-true _ _ e .0) k l)
+
+      test : (j : ℕ) → j < variables p → (ge p (rule p k) j ≤ 63) × (lt p (rule p k) j ≤ 63) × (change p (rule p k) j ≤ 2)
+      test j m =
+          let two = and-true _ _ (all-below-at (testHolds p k) (variables p) (holds .1) j m) in
+          let one = and-true _ _ (two .0) in
+          (leb-true (ge p (rule p k) j) 63 (one .0), leb-true (lt p (rule p k) j) 63 (one .1), leb-true (change p (rule p k) j) 2 (two .1))
+
+  pub event-true : valuesHold p ≡ true → (e j : ℕ) → e < events p → j < variables p → eventChange p e j ≤ 2
+  event-true h e j le lj =
+      let holds = and-true (allBelow (rules p) (ruleHolds p)) (allBelow (events p) (eventHolds p)) h .1 in
+      leb-true (eventChange p e j) 2 (all-below-at (eventChangeHolds p e) (variables p) (all-below-at (eventHolds p) (events p) holds e le) j lj)
+
+  -- ---- what acceptance gives
+  pub file-accepted : fileRefusal p ≡ 0 → FileAccepted p
+  unfolding fileRefusal row3 row4 row5 row6 row7 row8 row9 row10
+  file-accepted e =
+      let r2 = judge-zero 1 (leb 9 (length p)) (row3 p) .0 e in
+      let r3 = judge-zero 2 (hasMark 0x50 0x4F 0x4C p) (row4 p) .0 (r2 .1) in
+      let r4 = judge-zero 3 (hasVersion1 p) (row5 p) .0 (r3 .1) in
+      let r5 = judge-zero 4 (rangesHold p) (row6 p) .0 (r4 .1) in
+      let r6 = judge-zero 5 (eqb (length p) (exactLength p)) (row7 p) .0 (r5 .1) in
+      let r7 = judge-zero 6 (countsHold p) (row8 p) .0 (r6 .1) in
+      let r8 = judge-zero 7 (masksHold p) (row9 p) .0 (r7 .1) in
+      let r9 = judge-zero 8 (valuesHold p) (row10 p) .0 (r8 .1) in
+      let r10 = judge-zero 9 (leb (valuations p) 64) 0 .0 (r9 .1) in
+      let ranges = ranges-true (r5 .0) in
+      let counts = counts-true (r7 .0) in
+      record {
+        long = leb-true 9 (length p) (r2 .0);
+        mark = mark-true p 0x50 0x4F 0x4C .0 (r3 .0);
+        version = version-true p .0 (r4 .0);
+        eventsMost = ranges .0;
+        fieldsSome = ranges .1;
+        fieldsMost = ranges .2;
+        variablesMost = ranges .3;
+        rulesSome = ranges .4;
+        rulesMost = ranges .5;
+        exact = eqb-true (length p) (exactLength p) (r6 .0);
+        countSome = λ f l. counts .0 f l .0;
+        countMost = λ f l. counts .0 f l .1;
+        requestsSome = some-request p (λ f l. counts .0 f l .0);
+        requestsMost = counts .1;
+        widthMost = omega (arith, ranges .0, counts .1);
+        maskSome = λ k f lk lf. masks-true (r8 .0) k f lk lf .0;
+        maskMost = λ k f lk lf. masks-true (r8 .0) k f lk lf .1;
+        decisionMost = λ k l. rule-true (r9 .0) k l .0;
+        geMost = λ k j lk lj. rule-true (r9 .0) k lk .1 j lj .0;
+        ltMost = λ k j lk lj. rule-true (r9 .0) k lk .1 j lj .1;
+        changeMost = λ k j lk lj. rule-true (r9 .0) k lk .1 j lj .2;
+        eventChangeMost = event-true (r9 .0);
+        valuationsSome = some-valuation p;
+        valuationsMost = leb-true (valuations p) 64 (r10 .0);
+      }
+
+  pub policy-accepted : policyRefusal p ≡ 0 → PolicyAccepted p
+  unfolding policyRefusal row11
+  policy-accepted e =
+      let rows = then-judge-zero (fileRefusal p) (row11 p) .0 e in
+      let r11 = judge-zero 10 (leb (length (situations p)) 127) 0 .0 (rows .1) in
+      record { file = file-accepted (rows .0); situationsMost = leb-true (length (situations p)) 127 (r11 .0) }
+
+  -- ---- the records lie within a file of the exact length
+  module _ (exact : length p ≡ exactLength p) where
+    pub rule-within : (k : ℕ) → k < rules p → 9 + fields p + k * ruleSize p + ruleSize p ≤ length p
+    rule-within k l = omega (arith, mul-le-mul-right (ruleSize p) l, suc-mul k (ruleSize p))
+
+    pub event-within : (e : ℕ) → e < events p → 9 + fields p + rules p * ruleSize p + e * variables p + variables p ≤ length p
+    event-within e l = omega (arith, mul-le-mul-right (variables p) l, suc-mul e (variables p))
+
+-- ---- books
+module _ (b : List ℕ) where
+  -- ---- the layout
+  count-present : allBelow 4 (countHolds b) ≡ true → B.fields b ≤ 4 → (f : ℕ) → f < B.fields b → (1 ≤ B.count b f) × (B.count b f ≤ 16)
+  count-present e few f l = within-true 1 (B.count b f) 16 .0 (rw (lt-ltb f (B.fields b) l) at (all-below-at (countHolds b) 4 e f (omega arith)))
+
+  count-absent : allBelow 4 (countHolds b) ≡ true → (f : ℕ) → B.fields b ≤ f → f < 4 → B.count b f ≡ 0
+  count-absent e f l m = eqb-true (B.count b f) 0 (rw (le-ltb f (B.fields b) l) at (all-below-at (countHolds b) 4 e f m))
+
+  count-holds : (f : ℕ) → (f < B.fields b → (1 ≤ B.count b f) × (B.count b f ≤ 16)) → (B.fields b ≤ f → B.count b f ≡ 0) → countHolds b f ≡ true
+  count-holds f present absent = go (decLt f (B.fields b))
+    where
+      go : Dec (f < B.fields b) → countHolds b f ≡ true
+      go (yes l) = rw (lt-ltb f (B.fields b) l) (within-true 1 (B.count b f) 16 .1 (present l))
+      go (no l) = rw (le-ltb f (B.fields b) (omega arith)) (eq-eqb (B.count b f) 0 (absent (omega arith)))
+
+  pub layout-true : layoutHolds b ≡ true → BookLayout b
+  layout-true e =
+      let five = and-true _ _ e in
+      let four = and-true _ _ (five .0) in
+      let three = and-true _ _ (four .0) in
+      let two = and-true _ _ (three .0) in
+      let one = and-true _ _ (two .0) in
+      let inRange = within-true 1 (B.fields b) 4 .0 (one .1) in
+      let few = within-true 1 (B.states b) 127 .0 (four .1) in
+      let present = count-present (two .1) (inRange .1) in
+      record {
+        eventsMost = leb-true (B.events b) 8 (one .0);
+        fieldsSome = inRange .0;
+        fieldsMost = inRange .1;
+        countSome = λ f l. present f l .0;
+        countMost = λ f l. present f l .1;
+        countAbsent = count-absent (two .1);
+        requestsSome = product-some (B.count b) (B.fields b) (λ f l. present f l .0);
+        requestsMost = leb-true (B.requests b) 64 (three .1);
+        widthMost = omega (arith, leb-true (B.events b) 8 (one .0), leb-true (B.requests b) 64 (three .1));
+        statesSome = few .0;
+        statesMost = few .1;
+        exact = eqb-true (length b) (12 + B.states b * B.width b) (five .1);
+      }
+
+  layout-holds : BookLayout b → layoutHolds b ≡ true
+  layout-holds h =
+      let one = both-true (le-leb (B.events b) 8 (h .eventsMost)) (within-true 1 (B.fields b) 4 .1 (h .fieldsSome, h .fieldsMost)) in
+      let two = all-below (countHolds b) 4 (λ f l. count-holds f (λ m. (h .countSome f m, h .countMost f m)) (λ m. h .countAbsent f m l)) in
+      let three = le-leb (B.requests b) 64 (h .requestsMost) in
+      let four = within-true 1 (B.states b) 127 .1 (h .statesSome, h .statesMost) in
+      let five = eq-eqb (length b) (12 + B.states b * B.width b) (h .exact) in
+      both-true (both-true (both-true (both-true one two) three) four) five
+
+  -- ---- the entries
+  entry-true : (s c : ℕ) → entryHolds b s c ≡ true → (B.entry b s c ≤ B.states b) × (c < B.events b → 1 ≤ B.entry b s c)
+  entry-true s c e = (leb-true (B.entry b s c) (B.states b) (both .0), λ l. event l (or-true (leb (B.events b) c) (leb 1 (B.entry b s c)) (both .1)))
+    where
+      both : (leb (B.entry b s c) (B.states b) ≡ true) × ((leb (B.events b) c || leb 1 (B.entry b s c)) ≡ true)
+      both = and-true _ _ e
+
+      event : c < B.events b → (leb (B.events b) c ≡ true) ⊎ (leb 1 (B.entry b s c) ≡ true) → 1 ≤ B.entry b s c
+      event l (inl h) = absurd (omega (arith, leb-true (B.events b) c h))
+      event l (inr h) = leb-true 1 (B.entry b s c) h
+
+  entry-holds : (s c : ℕ) → B.entry b s c ≤ B.states b → (c < B.events b → 1 ≤ B.entry b s c) → entryHolds b s c ≡ true
+  entry-holds s c most some = both-true (le-leb (B.entry b s c) (B.states b) most) (go (decLt c (B.events b)))
+    where
+      go : Dec (c < B.events b) → (leb (B.events b) c || leb 1 (B.entry b s c)) ≡ true
+      go (yes l) = rw (lt-leb (B.events b) c l) (le-leb 1 (B.entry b s c) (some l))
+      go (no l) = rw (le-leb (B.events b) c (omega arith))
+
+  entries-true : entriesHold b ≡ true → (s c : ℕ) → 1 ≤ s → s ≤ B.states b → c < B.width b
+      → (B.entry b s c ≤ B.states b) × (c < B.events b → 1 ≤ B.entry b s c)
+  entries-true e zero c some most l = absurd (omega arith)
+  entries-true e (suc i) c some most l =
+      entry-true (suc i) c (all-below-at (entryHolds b (suc i)) (B.width b) (all-below-at (rowHolds b) (B.states b) e i most) c l)
+
+  -- ---- what passing gives, and what gives it
+  passed : bookRefusal b ≡ 0 → BookPassed b
+  unfolding bookRefusal row13 row14
+  passed e =
+      let r12 = judge-zero 11 (leb 12 (length b) && hasMark 0x42 0x4F 0x4B b && hasVersion1 b) (row13 b) .0 e in
+      let r13 = judge-zero 12 (layoutHolds b) (row14 b) .0 (r12 .1) in
+      let r14 = judge-zero 13 (entriesHold b) 0 .0 (r13 .1) in
+      let head = and-true _ _ (r12 .0) in
+      let begins = and-true _ _ (head .0) in
+      record {
+        long = leb-true 12 (length b) (begins .0);
+        mark = mark-true b 0x42 0x4F 0x4B .0 (begins .1);
+        version = version-true b .0 (head .1);
+        layout = layout-true (r13 .0);
+        entryMost = λ s c some most l. entries-true (r14 .0) s c some most l .0;
+        eventEntrySome = λ s c some most l. entries-true (r14 .0) s c some most (omega arith) .1 l;
+      }
+
+  passes : BookPassed b → bookRefusal b ≡ 0
+  unfolding bookRefusal row13 row14
+  passes h =
+      let begins = both-true (both-true (le-leb 12 (length b) (h .long)) (mark-true b 0x42 0x4F 0x4B .1 (h .mark))) (version-true b .1 (h .version)) in
+      let r14 = judge-zero 13 (entriesHold b) 0 .1 (all-below (rowHolds b) (B.states b) row, refl) in
+      let r13 = judge-zero 12 (layoutHolds b) (row14 b) .1 (layout-holds (h .layout), r14) in
+      judge-zero 11 (leb 12 (length b) && hasMark 0x42 0x4F 0x4B b && hasVersion1 b) (row13 b) .1 (begins, r13)
+    where
+      row : (i : ℕ) → i < B.states b → rowHolds b i ≡ true
+      row i l = all-below (entryHolds b (suc i)) (B.width b)
+          (λ c m. entry-holds (suc i) c (h .entryMost (suc i) c (omega arith) l m) (h .eventEntrySome (suc i) c (omega arith) l))
+
+  pub book-passed : (bookRefusal b ≡ 0) ↔ BookPassed b
+  book-passed = (passed, passes)
+
+  -- ---- the rows lie within bytes of the exact length
+  pub row-within : length b ≡ 12 + B.states b * B.width b → (s : ℕ) → 1 ≤ s → s ≤ B.states b → 12 + (s - 1) * B.width b + B.width b ≤ length b
+  row-within exact s some most =
+      let before : s - 1 < B.states b = omega arith in
+      omega (arith, mul-le-mul-right (B.width b) before, suc-mul (s - 1) (B.width b))

@@ -1,0 +1,159 @@
+-- The book of an accepted policy: it has the policy's frame and histories, the checks pass it, and it is the same for every accepted policy with that frame
+-- and these histories.
+use mathlib.Core.Path.{_≡_, refl, sym, ap, ap₂, _∙_}
+use mathlib.Core.Bool.{true}
+use mathlib.Core.List.{List, [], _∷_, _++_}
+use Prim.Native.Nat.{ℕ, zero, suc, _≤_, _<_}
+use native.Mathlib.Nat.{le-trans}
+use native.Mathlib.Omega.{arith}
+use lib.ListN.{length}
+use borrow.Author.Tests.{lt-ltb, le-ltb}
+use Rattle.automaton.specs.History.{History}
+use Rattle.automaton.specs.Machine.{Machine, step, after, isState, possible}
+use Rattle.automaton.specs.Table.{entryIn, tabled}
+use Rattle.automaton.proofs.Machines.{after-append}
+use Rattle.automaton.proofs.WellFormed.{IsTable, step-entry}
+use Rattle.automaton.proofs.Minimal.{TidyTableOf, built, built-length, built-unique}
+use Rattle.definitions.specs.Policy as P
+use Rattle.definitions.specs.Situation.{startSituation, policyMachine}
+use Rattle.definitions.specs.Book as B
+use Rattle.definitions.specs.Book.{bookBytes, bookMachine}
+use Rattle.definitions.specs.Refusal.{fileRefusal, situations, row11, policyRefusal, Accepted, bookRefusal}
+use Rattle.definitions.specs.Build.{bookRows, bookOf}
+use Rattle.definitions.specs.Demands.{SameHistories}
+use Rattle.definitions.proofs.Tests.{then-judge-zero}
+use Rattle.definitions.proofs.Accepted.{FileAccepted, file-accepted, policy-accepted, BookLayout, BookPassed, book-passed}
+use Rattle.definitions.proofs.BookBytes.{length-of-bytes, entry-of-bytes, possible-of-bytes, policy-count, policy-requests, policy-width}
+use Rattle.definitions.proofs.Steps.{start-below, after-below, event-possible}
+use Rattle.definitions.proofs.BookSteps.{is-state, state-is}
+
+-- ---- a tidy table of a machine
+module _ (w : ℕ) (m : Machine) (rows : List (List ℕ)) (t : TidyTableOf w m rows) where
+  abbrev M : Machine
+  M = tabled w rows
+
+  -- each row is reached
+  row-reached : (fuel s : ℕ) → s < fuel → 1 ≤ s → s ≤ length rows → (h : History) × (after M 1 h ≡ s)
+  row-reached zero s b some l = absurd (omega arith)
+  row-reached (suc fuel) zero b some l = absurd (omega arith)
+  row-reached (suc fuel) (suc zero) b some l = ([], refl)
+  row-reached (suc fuel) (suc (suc s)) b some l = go (row-reached fuel) (t .tidy .ordered .met (suc (suc s)) (omega arith) l)
+    where
+      go : ((s : ℕ) → s < fuel → 1 ≤ s → s ≤ length rows → (h : History) × (after M 1 h ≡ s))
+          → (p : ℕ) × (d : ℕ) × (p < suc (suc s)) × (step M p d ≡ suc (suc s)) → (h : History) × (after M 1 h ≡ suc (suc s))
+      go ih (zero, d, k, e) = absurd (omega arith)
+      go ih (suc p, d, k, e) =
+          let r = ih (suc p) (omega arith) (omega arith) (omega arith) in
+          (r .0 ++ (d ∷ []), after-append M 1 (r .0) (d ∷ []) ∙ ap (λ (q : ℕ). step M q d) (r .1) ∙ e)
+
+  -- so a code that is possible after every possible history is possible in each row
+  always-in-rows : (c : ℕ) → ((h : History) → possible m h ≡ true → possible m (h ++ (c ∷ [])) ≡ true)
+      → (s : ℕ) → 1 ≤ s → s ≤ length rows → isState (step M s c) ≡ true
+  always-in-rows c always s some l =
+      let r = row-reached (suc s) s (omega arith) some l in
+      let here : possible M (r .0) ≡ true = ap isState (r .1) ∙ is-state s some in
+      ap isState (sym (after-append M 1 (r .0) (c ∷ []) ∙ ap (λ (q : ℕ). step M q c) (r .1)))
+      ∙ t .histories (r .0 ++ (c ∷ [])) ∙ always (r .0) (sym (t .histories (r .0)) ∙ here)
+
+-- ---- a policy's frame with a table in which no entry for an event is 0
+module _ (p : List ℕ) (passes : fileRefusal p ≡ 0) (rows : List (List ℕ)) (isTable : IsTable (P.width p) rows) (few : length rows ≤ 127)
+    (event : (s e : ℕ) → 1 ≤ s → s ≤ length rows → e < P.events p → 1 ≤ entryIn rows s e) where
+  abbrev b : List ℕ
+  b = bookBytes (P.frame p) rows
+
+  ok : FileAccepted p
+  ok = file-accepted p passes
+
+  width-is : B.width b ≡ P.width p
+  width-is = policy-width p rows passes
+
+  count-is : (f : ℕ) → f < P.fields p → B.count b f ≡ P.count p f
+  count-is f l = policy-count p rows f (omega (arith, ok .fieldsMost)) ∙ rw (lt-ltb f (P.fields p) l)
+
+  entry-is : (s c : ℕ) → 1 ≤ s → s ≤ length rows → c < P.width p → B.entry b s c ≡ entryIn rows s c
+  entry-is = entry-of-bytes (P.frame p) rows refl (P.width p) width-is (isTable .wide)
+
+  layout : BookLayout b
+  layout = record {
+    eventsMost = ok .eventsMost;
+    fieldsSome = ok .fieldsSome;
+    fieldsMost = ok .fieldsMost;
+    countSome = λ f l. rw (count-is f l) (ok .countSome f l);
+    countMost = λ f l. rw (count-is f l) (ok .countMost f l);
+    countAbsent = λ f l k. policy-count p rows f k ∙ rw (le-ltb f (P.fields p) l);
+    requestsSome = rw (policy-requests p rows passes) (ok .requestsSome);
+    requestsMost = rw (policy-requests p rows passes) (ok .requestsMost);
+    widthMost = rw width-is (ok .widthMost);
+    statesSome = isTable .some;
+    statesMost = few;
+    exact = rw width-is (length-of-bytes (P.frame p) rows refl (P.width p) (isTable .wide));
+  }
+
+  bytes-pass : BookPassed b
+  bytes-pass = record {
+    long = omega (arith, layout .exact);
+    mark = (refl, refl, refl);
+    version = (refl, refl);
+    layout = layout;
+    entryMost = λ s c some most l. rw (entry-is s c some most (rw width-is at l)) (isTable .inside s c);
+    eventEntrySome = λ s e some most l. rw (entry-is s e some most (omega arith)) (event s e some most l);
+  }
+
+-- ---- the book of an accepted policy
+module _ (p : List ℕ) (accepted : Accepted p) where
+  file-passes : fileRefusal p ≡ 0
+  unfolding policyRefusal
+  file-passes = then-judge-zero (fileRefusal p) (row11 p) .0 accepted .0
+
+  few : length (situations p) ≤ 127
+  few = policy-accepted p accepted .situationsMost
+
+  rows-tidy : TidyTableOf (P.width p) (policyMachine p) (bookRows p)
+  unfolding bookRows situations
+  rows-tidy = built (policyMachine p) 127 refl few
+
+  rows-few : length (bookRows p) ≤ 127
+  unfolding bookRows situations
+  rows-few = le-trans (built-length (policyMachine p) 127 refl few) few
+
+  -- an event is possible after every history that is
+  event-always : (e : ℕ) → e < P.events p → (h : History) → possible (policyMachine p) h ≡ true → possible (policyMachine p) (h ++ (e ∷ [])) ≡ true
+  event-always e l h q =
+      ap isState (after-append (policyMachine p) startSituation h (e ∷ []))
+      ∙ event-possible p (after (policyMachine p) startSituation h) e q (after-below p startSituation (start-below p) h) l
+
+  event-entry : (s e : ℕ) → 1 ≤ s → s ≤ length (bookRows p) → e < P.events p → 1 ≤ entryIn (bookRows p) s e
+  event-entry s e some most l =
+      rw (step-entry (P.width p) (bookRows p) (rows-tidy .isTable) s e) at
+      (state-is (step (tabled (P.width p) (bookRows p)) s e)
+      (always-in-rows (P.width p) (policyMachine p) (bookRows p) rows-tidy e (event-always e l) s some most))
+
+  pub built-frame : B.frame (bookOf p) ≡ P.frame p
+  unfolding bookOf
+  built-frame = refl
+
+  pub built-histories : SameHistories (bookMachine (bookOf p)) (policyMachine p)
+  unfolding bookOf
+  built-histories h =
+      possible-of-bytes (P.frame p) (bookRows p) refl (P.width p) (policy-width p (bookRows p) file-passes) (rows-tidy .isTable) h ∙ rows-tidy .histories h
+
+  pub built-passes : bookRefusal (bookOf p) ≡ 0
+  unfolding bookOf
+  built-passes = book-passed (bookBytes (P.frame p) (bookRows p)) .1 (bytes-pass p file-passes (bookRows p) (rows-tidy .isTable) rows-few event-entry)
+
+-- ---- and of two
+module _ (p q : List ℕ) (first : Accepted p) (second : Accepted q) (frames : P.frame p ≡ P.frame q) where
+  pub frames-same : B.frame (bookOf p) ≡ B.frame (bookOf q)
+  frames-same = built-frame p first ∙ frames ∙ sym (built-frame q second)
+
+  widths-same : P.width p ≡ P.width q
+  widths-same =
+      sym (policy-width p [] (file-passes p first)) ∙ ap (λ (frame : List ℕ). B.width (bookBytes frame [])) frames ∙ policy-width q [] (file-passes q second)
+
+  rows-same : SameHistories (policyMachine p) (policyMachine q) → bookRows p ≡ bookRows q
+  unfolding bookRows situations
+  rows-same = built-unique (policyMachine p) (policyMachine q) widths-same 127 refl refl (few p first) (few q second)
+
+  pub books-same : SameHistories (policyMachine p) (policyMachine q) → bookOf p ≡ bookOf q
+  unfolding bookOf
+  books-same same = ap₂ bookBytes frames (rows-same same)

@@ -1,0 +1,50 @@
+-- The owner's demands 2 and 3, and what verdict and compare owe for any book. No theorem here has a hypothesis beyond this: the policies are accepted, or the
+-- books pass the checks and, where two are compared, have one frame.
+use mathlib.Core.Path.{_≡_, sym, ap, _∙_}
+use mathlib.Core.List.{List}
+use Prim.Native.Nat.{ℕ}
+use Rattle.automaton.specs.Machine.{possible}
+use Rattle.definitions.specs.Policy as P
+use Rattle.definitions.specs.Situation.{policyMachine}
+use Rattle.definitions.specs.Book as B
+use Rattle.definitions.specs.Refusal.{Accepted}
+use Rattle.definitions.specs.Build.{bookOf}
+use Rattle.definitions.specs.Compare.{comparison}
+use Rattle.definitions.specs.Demands.{SameHistories, Demand2, Demand3}
+use Rattle.definitions.proofs.Accepted.{book-passed}
+use Rattle.definitions.proofs.Built.{built-frame, built-histories, built-passes, frames-same, books-same}
+use Rattle.definitions.proofs.SameHistories.{findings-along, comparison-along}
+-- verdict-right : (b : List ℕ) → bookRefusal b ≡ 0 → VerdictIsRight b
+pub use Rattle.definitions.proofs.Verdicts.{verdict-right}
+-- compare-right : (b d : List ℕ) → bookRefusal b ≡ 0 → bookRefusal d ≡ 0 → frame b ≡ frame d → CompareIsRight b d
+pub use Rattle.definitions.proofs.Comparisons.{compare-right}
+
+pub demand2 : (p : List ℕ) → Accepted p → Demand2 p
+demand2 p accepted =
+    let b = bookOf p in
+    let passes = built-passes p accepted in
+    let layout = book-passed b .0 passes .layout in
+    record {
+      histories = built-histories p accepted;
+      findings = findings-along (B.bookMachine b) (policyMachine p) (built-histories p accepted) b (verdict-right b passes .findings);
+      passes = passes;
+      frame = built-frame p accepted;
+      size = layout .exact;
+      states = (layout .statesSome, layout .statesMost);
+    }
+
+-- equal books have equal frames and the same histories
+equal-books : (p q : List ℕ) → Accepted p → Accepted q → bookOf p ≡ bookOf q → (P.frame p ≡ P.frame q) × SameHistories (policyMachine p) (policyMachine q)
+equal-books p q first second e = (
+  sym (built-frame p first) ∙ ap B.frame e ∙ built-frame q second,
+  λ h. sym (built-histories p first h) ∙ ap (λ (b : List ℕ). possible (B.bookMachine b) h) e ∙ built-histories q second h,
+)
+
+pub demand3 : (p q : List ℕ) → Accepted p → Accepted q → Demand3 p q
+demand3 p q first second = record {
+  books = (equal-books p q first second, λ r. books-same p q first second (r .0) (r .1));
+  compared = λ frames.
+      comparison-along (B.bookMachine (bookOf p)) (policyMachine p) (B.bookMachine (bookOf q)) (policyMachine q)
+      (built-histories p first) (built-histories q second) (comparison (bookOf p) (bookOf q))
+      (compare-right (bookOf p) (bookOf q) (built-passes p first) (built-passes q second) (frames-same p q first second frames) .compared);
+}

@@ -1,0 +1,47 @@
+-- Machines with the same histories have the same findings and comparisons: what is right of one is right of the other.
+use mathlib.Core.Path.{_≡_, sym, _∙_, subst, subst₂, fun-ext}
+use mathlib.Core.Bool.{Bool, true, false}
+use mathlib.Core.List.{List, [], _∷_, _++_}
+use mathlib.Core.Option.{Option}
+use Prim.Native.Nat.{ℕ, _<_}
+use Rattle.automaton.specs.History.{History, Earliest}
+use Rattle.automaton.specs.Machine.{Machine, inOne}
+use Rattle.definitions.specs.Situation.{acceptCode, rejectCode}
+use Rattle.definitions.specs.Book.{events, requests}
+use Rattle.definitions.specs.Verdict.{conflict, missing, blocked}
+use Rattle.definitions.specs.Demands.{Events, FindingIsRight, BlockingIsRight, FindingsAreRight, SameHistories, ComparisonIsRight}
+
+-- the properties of histories that findings are about, over what is possible instead of a machine
+module _ (possible : History → Bool) (E : ℕ) where
+  abbrev Conflicting : History → ℕ → Type 0
+  Conflicting h r = (possible (h ++ (acceptCode E r ∷ [])) ≡ true) × (possible (h ++ (rejectCode E r ∷ [])) ≡ true)
+
+  abbrev Unanswered : History → ℕ → Type 0
+  Unanswered h r = (possible (h ++ (acceptCode E r ∷ [])) ≡ false) × (possible (h ++ (rejectCode E r ∷ [])) ≡ false)
+
+  abbrev Missing : History → ℕ → Type 0
+  Missing h r = (possible h ≡ true) × Unanswered h r
+
+  abbrev Blocked : ℕ → History → Type 0
+  Blocked Q h = (possible h ≡ true) × ((es : History) → Events E es → (r : ℕ) → r < Q → Unanswered (h ++ es) r)
+
+module _ (m k : Machine) (same : SameHistories m k) (b : List ℕ) where
+  abbrev E : ℕ
+  E = events b
+
+  abbrev Q : ℕ
+  Q = requests b
+
+  pub findings-along : FindingsAreRight m b → FindingsAreRight k b
+  findings-along right = record {
+    conflict-right = subst (λ (f : History → Bool). FindingIsRight (Conflicting f E) Q (conflict b)) (fun-ext same) (right .conflict-right);
+    missing-right = subst (λ (f : History → Bool). FindingIsRight (Missing f E) Q (missing b)) (fun-ext same) (right .missing-right);
+    blocked-right = subst (λ (f : History → Bool). BlockingIsRight (Blocked f E Q) (blocked b)) (fun-ext same) (right .blocked-right);
+  }
+
+module _ (m m′ k k′ : Machine) (first : SameHistories m m′) (second : SameHistories k k′) (answer : Option History) where
+  pub comparison-along : ComparisonIsRight m k answer → ComparisonIsRight m′ k′ answer
+  comparison-along right = record {
+    same = (λ e h. sym (first h) ∙ right .same .0 e h ∙ second h, λ all. right .same .1 (λ h. first h ∙ all h ∙ sym (second h)));
+    differ = λ h e. subst₂ (λ (f g : History → Bool). Earliest (λ k. inOne (f k) (g k) ≡ true) h) (fun-ext first) (fun-ext second) (right .differ h e);
+  }

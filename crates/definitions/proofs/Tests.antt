@@ -1,0 +1,50 @@
+-- What the tests of the byte formats mean, and when rows that are judged in order turn nothing down.
+use mathlib.Core.Path.{_≡_, refl}
+use mathlib.Core.Bool.{Bool, true, false, false≢true, _&&_}
+use mathlib.Core.Logic.{_↔_}
+use mathlib.Core.List.{List}
+use Prim.Native.Nat.{ℕ, zero, suc, _+_, _*_, _≤_}
+use native.Mathlib.Omega.{arith}
+use lib.Dec.{leb, eqb, eqb·suc-zero}
+use borrow.Author.Tests.{leb-true, eqb-true, le-leb, eq-eqb}
+use Rattle.automaton.proofs.Counting.{and-true}
+use Rattle.definitions.specs.Answer.{judge, thenJudge}
+use Rattle.definitions.specs.Bytes.{byte, hasMark, hasVersion1, within}
+
+pub both-true : {a b : Bool} → a ≡ true → b ≡ true → (a && b) ≡ true
+both-true p q = rw p q
+
+-- no row fits where the first does not and no later one does
+pub judge-zero : (number : ℕ) (passes : Bool) (later : ℕ) → (judge (suc number) passes later ≡ 0) ↔ ((passes ≡ true) × (later ≡ 0))
+judge-zero number true later = (λ e. (refl, e), λ h. h .1)
+judge-zero number false later = (λ e. absurd (omega arith), λ h. absurd (false≢true (h .0)))
+
+pub then-judge-zero : (first later : ℕ) → (thenJudge first later ≡ 0) ↔ ((first ≡ 0) × (later ≡ 0))
+then-judge-zero zero later = (λ e. (refl, e), λ h. h .1)
+then-judge-zero (suc n) later = (λ e. never (rw (eqb·suc-zero n) at e), λ h. absurd (omega arith))
+  where
+    never : suc n ≡ 0 → (suc n ≡ 0) × (later ≡ 0)
+    never e = absurd (omega arith)
+
+pub within-true : (low x high : ℕ) → (within low x high ≡ true) ↔ ((low ≤ x) × (x ≤ high))
+within-true low x high = (into, λ h. both-true (le-leb low x (h .0)) (le-leb x high (h .1)))
+  where
+    into : within low x high ≡ true → (low ≤ x) × (x ≤ high)
+    into e = let both = and-true (leb low x) (leb x high) e in (leb-true low x (both .0), leb-true x high (both .1))
+
+module _ (bytes : List ℕ) where
+  pub mark-true : (x y z : ℕ) → (hasMark x y z bytes ≡ true) ↔ ((byte bytes 0 ≡ x) × (byte bytes 1 ≡ y) × (byte bytes 2 ≡ z))
+  mark-true x y z =
+      (into, λ h. both-true (both-true (eq-eqb (byte bytes 0) x (h .0)) (eq-eqb (byte bytes 1) y (h .1))) (eq-eqb (byte bytes 2) z (h .2)))
+    where
+      into : hasMark x y z bytes ≡ true → (byte bytes 0 ≡ x) × (byte bytes 1 ≡ y) × (byte bytes 2 ≡ z)
+      into e =
+          let two = and-true (eqb (byte bytes 0) x && eqb (byte bytes 1) y) (eqb (byte bytes 2) z) e in
+          let one = and-true (eqb (byte bytes 0) x) (eqb (byte bytes 1) y) (two .0) in
+          (eqb-true (byte bytes 0) x (one .0), eqb-true (byte bytes 1) y (one .1), eqb-true (byte bytes 2) z (two .1))
+
+  pub version-true : (hasVersion1 bytes ≡ true) ↔ ((byte bytes 3 ≡ 0) × (byte bytes 4 ≡ 1))
+  version-true = (into, λ h. eq-eqb (byte bytes 3 * 256 + byte bytes 4) 1 (omega arith))
+    where
+      into : hasVersion1 bytes ≡ true → (byte bytes 3 ≡ 0) × (byte bytes 4 ≡ 1)
+      into e = let is = eqb-true (byte bytes 3 * 256 + byte bytes 4) 1 e in (omega arith, omega arith)
