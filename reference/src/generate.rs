@@ -1,0 +1,71 @@
+//! Inputs for tests, made from a seed. The same seed gives the same bytes
+//! forever: no function here may change what it gives for a seed.
+
+mod book_damage;
+mod books;
+mod extremes;
+mod policies;
+mod policy_damage;
+mod random;
+mod shape;
+mod variation;
+
+pub use book_damage::{damaged_book, faulty_pair};
+pub use books::{book, book_pair};
+pub use extremes::{far_pair, late_finding_book, longest_pair};
+pub use policies::policy;
+pub use policy_damage::damaged_policy;
+pub use random::Random;
+pub use variation::policy_pair;
+
+/// The names of the kinds that `one` knows.
+pub const KINDS: [&str; 13] = [
+    "policy",
+    "policy-pair-first",
+    "policy-pair-second",
+    "damaged-policy",
+    "book",
+    "damaged-book",
+    "late-finding-book",
+    "pair-first",
+    "pair-second",
+    "longest-pair-first",
+    "longest-pair-second",
+    "faulty-pair-first",
+    "faulty-pair-second",
+];
+
+/// The input of a kind named in `KINDS` for a seed, nothing for another name.
+pub fn one(kind: &str, seed: u64) -> Option<Vec<u8>> {
+    Some(match kind {
+        "policy" => policy(seed),
+        "policy-pair-first" => policy_pair(seed).0,
+        "policy-pair-second" => policy_pair(seed).1,
+        "damaged-policy" => damaged_policy(seed),
+        "book" => book(seed),
+        "damaged-book" => damaged_book(seed),
+        "late-finding-book" => late_finding_book(seed),
+        "pair-first" => book_pair(seed).0,
+        "pair-second" => book_pair(seed).1,
+        "longest-pair-first" => longest_pair(seed).0,
+        "longest-pair-second" => longest_pair(seed).1,
+        "faulty-pair-first" => faulty_pair(seed).0,
+        "faulty-pair-second" => faulty_pair(seed).1,
+        _ => return None,
+    })
+}
+
+/// Codes to try one after another on an opened book with `width` codes. Now
+/// and then one is not below the width.
+pub fn codes(seed: u64, width: usize, length: usize) -> Vec<usize> {
+    let mut random = Random::new(seed, "codes");
+    (0..length)
+        .map(|_| {
+            if random.chance(1, 64) {
+                width + random.below(300)
+            } else {
+                random.below(width)
+            }
+        })
+        .collect()
+}

@@ -1,0 +1,128 @@
+//! The command line of the reference implementation.
+
+use std::fs;
+use std::io::{self, Read};
+use std::process::ExitCode;
+
+use reference::book::{self, Book};
+use reference::compare::{self, Comparison};
+use reference::findings::findings;
+use reference::refusal::Refusal;
+use reference::{generate, hex, shelf};
+
+const HELP: &str = "\
+reference book FILE                  print the book of a policy in hexadecimal
+reference shelf FILE                 print what the program shelf prints for a policy
+reference compare FILE FILE          compare two books
+reference verdict FILE               print the findings about a book
+reference build FILE OUT             write the book of a policy into the file OUT
+reference generate KIND SEED OUT     write a generated input into the file OUT
+reference help                       print this text
+
+A FILE of - is standard input. An input that is turned down gives the line
+'refused N'; its meaning is written to standard error.
+Kinds:";
+
+fn main() -> ExitCode {
+    let arguments: Vec<String> = std::env::args().skip(1).collect();
+    let arguments: Vec<&str> = arguments.iter().map(String::as_str).collect();
+    match run(&arguments) {
+        Ok(output) => {
+            print!("{output}");
+            ExitCode::SUCCESS
+        }
+        Err(message) => {
+            eprintln!("{message}");
+            ExitCode::from(2)
+        }
+    }
+}
+
+/// The text for standard output, or what is wrong with the usage.
+fn run(arguments: &[&str]) -> Result<String, String> {
+    match arguments {
+        ["book", file] => Ok(answer(book::build(&read(file)?), |book| {
+            hex::book_lines(&book)
+        })),
+        ["shelf", file] => print_shelf(&read(file)?),
+        ["compare", "-", "-"] => Err("only one of the two books can be standard input".into()),
+        ["compare", first, second] => Ok(answer(
+            compare::compare(&read(first)?, &read(second)?),
+            comparison_line,
+        )),
+        ["verdict", file] => Ok(answer(book::read(&read(file)?), |book: Book| {
+            shelf::finding_lines(&findings(&book))
+        })),
+        ["build", file, out] => write_book(file, out),
+        ["generate", kind, seed, out] => write_generated(kind, seed, out),
+        ["help"] => Ok(format!("{HELP} {}\n", generate::KINDS.join(" "))),
+        _ => Err(format!(
+            "not a command\n\n{HELP} {}",
+            generate::KINDS.join(" ")
+        )),
+    }
+}
+
+/// The text of an answer, or the line of a refusal with its meaning on standard
+/// error.
+fn answer<T>(result: Result<T, Refusal>, text: impl FnOnce(T) -> String) -> String {
+    match result {
+        Ok(value) => text(value),
+        Err(refusal) => {
+            explain(refusal);
+            shelf::refusal_line(refusal)
+        }
+    }
+}
+
+fn explain(refusal: Refusal) {
+    eprintln!(
+        "refused by number {}: {}",
+        refusal.number(),
+        refusal.meaning()
+    );
+}
+
+fn print_shelf(policy: &[u8]) -> Result<String, String> {
+    if let Err(refusal) = book::build(&policy[..policy.len().min(shelf::MOST_BYTES)]) {
+        explain(refusal);
+    }
+    Ok(shelf::shelf(policy))
+}
+
+fn comparison_line(comparison: Comparison) -> String {
+    match comparison {
+        Comparison::Same => "same\n".to_string(),
+        Comparison::Differ(history) => format!("differ{}\n", shelf::history_part(&history)),
+    }
+}
+
+fn write_book(file: &str, out: &str) -> Result<String, String> {
+    match book::build(&read(file)?) {
+        Ok(book) => write(out, &book.to_bytes()).map(|()| String::new()),
+        Err(refusal) => Ok(answer(Err(refusal), |()| String::new())),
+    }
+}
+
+fn write_generated(kind: &str, seed: &str, out: &str) -> Result<String, String> {
+    let seed: u64 = seed
+        .parse()
+        .map_err(|_| format!("the seed is not a number: {seed}"))?;
+    let bytes = generate::one(kind, seed)
+        .ok_or_else(|| format!("no such kind: {kind}; kinds: {}", generate::KINDS.join(" ")))?;
+    write(out, &bytes).map(|()| String::new())
+}
+
+fn read(file: &str) -> Result<Vec<u8>, String> {
+    let mut bytes = Vec::new();
+    let result = if file == "-" {
+        io::stdin().read_to_end(&mut bytes).map(|_| bytes)
+    } else {
+        fs::read(file)
+    };
+    result.map_err(|error| format!("cannot read {file}: {error}"))
+}
+
+fn write(file: &str, bytes: &[u8]) -> Result<(), String> {
+    fs::write(file, bytes).map_err(|error| format!("cannot write {file}: {error}"))
+}

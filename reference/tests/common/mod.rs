@@ -1,0 +1,129 @@
+//! Helpers shared by the tests: the policies of the table of cases, and books
+//! read straight from their bytes.
+
+#![allow(dead_code)]
+
+use reference::book::{build, Book};
+use reference::hex;
+
+/// Policy A.
+pub const A: &str = "50 4F 4C 00 01 01 01 01 03 02 | 00 01 01 00 00 00 00 \
+                     | 00 02 01 00 00 02 01 | 00 02 00 00 02 00 00 | 02";
+
+/// Bytes written as hexadecimal text.
+pub fn bytes(text: &str) -> Vec<u8> {
+    hex::parse(text).expect("hexadecimal text")
+}
+
+/// Policy A as bytes.
+pub fn policy_a() -> Vec<u8> {
+    bytes(A)
+}
+
+/// The policy with one more rule after its last one.
+pub fn with_rule(policy: &[u8], rule: &str) -> Vec<u8> {
+    let event_bytes = policy[5] as usize * policy[7] as usize;
+    let (before, events) = policy.split_at(policy.len() - event_bytes);
+    let mut longer = [before, &bytes(rule), events].concat();
+    longer[8] += 1;
+    longer
+}
+
+/// The bytes with one of them changed.
+pub fn with_byte(original: &[u8], place: usize, byte: u8) -> Vec<u8> {
+    let mut changed = original.to_vec();
+    changed[place] = byte;
+    changed
+}
+
+/// A with both 2s of its tests as 1.
+pub fn policy_b() -> Vec<u8> {
+    with_byte(&with_byte(&policy_a(), 22, 1), 28, 1)
+}
+
+/// A and a rule that tests a number no history reaches.
+pub fn policy_c() -> Vec<u8> {
+    with_rule(&policy_a(), "00 02 00 00 05 00 00")
+}
+
+/// A, its third rule adding, and a rule with a greater test.
+pub fn policy_d() -> Vec<u8> {
+    with_rule(&with_byte(&policy_a(), 30, 1), "00 02 00 00 04 00 00")
+}
+
+/// A and a rule that conflicts with the first.
+pub fn policy_e() -> Vec<u8> {
+    with_rule(&policy_a(), "00 01 00 00 02 00 00")
+}
+
+/// The same with the added rule at level 1.
+pub fn policy_e_level_1() -> Vec<u8> {
+    with_rule(&policy_a(), "00 01 00 01 02 00 00")
+}
+
+/// A without its third rule.
+pub fn policy_f() -> Vec<u8> {
+    bytes("50 4F 4C 00 01 01 01 01 02 02 | 00 01 01 00 00 00 00 | 00 02 01 00 00 02 01 | 02")
+}
+
+/// One rule that closes itself.
+pub fn policy_g() -> Vec<u8> {
+    bytes("50 4F 4C 00 01 00 01 01 01 02 | 00 03 01 00 00 01 01")
+}
+
+/// G with an event that sets to zero.
+pub fn policy_j() -> Vec<u8> {
+    bytes("50 4F 4C 00 01 01 01 01 01 02 | 00 03 01 00 00 01 01 | 02")
+}
+
+/// Two situations that are alike, one with a valuation that has no rule.
+pub fn policy_h() -> Vec<u8> {
+    bytes("50 4F 4C 00 01 00 01 01 02 01 | 00 01 01 00 00 01 00 | 00 01 01 00 00 01 01")
+}
+
+/// Case S with this number as the greater lt.
+pub fn policy_s(top: u8) -> Vec<u8> {
+    let head = "50 4F 4C 00 01 00 01 01 03 02 | 00 03 01 00 00 01 00 | 00 01 01 00 00 01 01";
+    [bytes(head), bytes("00 03 01 00 01"), vec![top, 1]].concat()
+}
+
+/// The book of a policy that is accepted.
+pub fn book_of(policy: &[u8]) -> Book {
+    build(policy).expect("an accepted policy")
+}
+
+/// The bytes of the book of a policy that is accepted.
+pub fn book_bytes(policy: &[u8]) -> Vec<u8> {
+    book_of(policy).to_bytes()
+}
+
+/// The state that a history leads to in a book, straight from its bytes.
+pub fn state_after(book: &[u8], history: &[u8]) -> Option<usize> {
+    let mut state = 1;
+    for &code in history {
+        state = entry(book, state, code as usize);
+        if state == 0 {
+            return None;
+        }
+    }
+    Some(state)
+}
+
+/// An entry of a book, straight from its bytes.
+pub fn entry(book: &[u8], state: usize, code: usize) -> usize {
+    book[12 + (state - 1) * width(book) + code] as usize
+}
+
+/// The number of requests of a book, straight from its bytes.
+pub fn requests(book: &[u8]) -> usize {
+    book[7..11]
+        .iter()
+        .filter(|&&count| count != 0)
+        .map(|&count| count as usize)
+        .product()
+}
+
+/// The number of codes of a book, straight from its bytes.
+pub fn width(book: &[u8]) -> usize {
+    book[5] as usize + 2 * requests(book)
+}

@@ -1,0 +1,259 @@
+//! Properties that hold for every policy and every book, tried on generated
+//! ones with fixed seeds.
+
+mod common;
+#[path = "common/plain.rs"]
+mod plain;
+
+use std::collections::{BTreeMap, BTreeSet};
+
+use common::{entry, requests, width};
+use plain::PlainPolicy;
+use reference::book::{self, build, Book, MOST_LENGTH};
+use reference::explore::explore;
+use reference::generate::{self, Random};
+use reference::{policy, situation};
+
+/// Accepted policies and their books.
+fn built(seeds: std::ops::Range<u64>) -> impl Iterator<Item = (Vec<u8>, Book)> {
+    seeds.filter_map(|seed| {
+        let policy = generate::policy(seed);
+        let book = build(&policy).ok()?;
+        Some((policy, book))
+    })
+}
+
+#[test]
+fn most_policies_are_accepted_and_written_as_they_were_read() {
+    let mut accepted = 0;
+    for seed in 0..300 {
+        let bytes = generate::policy(seed);
+        let decoded = policy::read(&bytes).expect("only number 11 occurs");
+        assert_eq!(policy::write(&decoded), bytes);
+        let valuations = situation::all_valuations(&decoded);
+        assert_eq!(valuations.len(), situation::count_valuations(&decoded));
+        assert_eq!(
+            valuations.iter().collect::<BTreeSet<_>>().len(),
+            valuations.len()
+        );
+        accepted += usize::from(build(&bytes).is_ok());
+    }
+    assert!(accepted > 270, "{accepted}");
+}
+
+#[test]
+fn built_books_pass_the_checks() {
+    for (policy, book) in built(0..300) {
+        let bytes = book.to_bytes();
+        assert!(bytes.len() <= MOST_LENGTH);
+        assert_eq!(bytes.len(), 12 + book.states() * book.frame.width());
+        assert_eq!(book::read(&bytes).as_ref(), Ok(&book));
+        assert_eq!(bytes[5..7], policy[5..7]);
+        assert_eq!(
+            bytes[7..7 + policy[6] as usize],
+            policy[9..9 + policy[6] as usize]
+        );
+    }
+}
+
+/// All histories, shortest first, as far as the work allows.
+#[test]
+fn short_histories_of_policy_and_book_agree() {
+    for (bytes, book) in built(0..200) {
+        let plain = PlainPolicy::new(&bytes);
+        assert_eq!(plain.width(), book.frame.width());
+        let mut waiting = vec![(plain.start(), 1)];
+        let mut next = 0;
+        while next < waiting.len() && waiting.len() * plain.width() < 6_000 {
+            let (set, state) = waiting[next].clone();
+            for code in 0..plain.width() {
+                let reached = plain.after(&set, code);
+                let target = book.entry(state, code);
+                assert_eq!(reached.is_empty(), target == 0);
+                if target != 0 {
+                    waiting.push((reached, target));
+                }
+            }
+            next += 1;
+        }
+    }
+}
+
+#[test]
+fn long_histories_of_policy_and_book_agree() {
+    for (seed, (bytes, book)) in built(0..200).enumerate() {
+        let plain = PlainPolicy::new(&bytes);
+        let mut random = Random::new(seed as u64, "long histories");
+        for _ in 0..2 {
+            let (mut set, mut state) = (plain.start(), 1);
+            for _ in 0..150 {
+                let code = random.below(plain.width());
+                let reached = plain.after(&set, code);
+                assert_eq!(reached.is_empty(), book.entry(state, code) == 0);
+                if !reached.is_empty() {
+                    (set, state) = (reached, book.entry(state, code));
+                }
+            }
+        }
+    }
+}
+
+/// Every reached situation with all its steps, so all histories of any length.
+#[test]
+fn every_situation_and_every_step_agree() {
+    for (bytes, book) in built(0..150) {
+        let plain = PlainPolicy::new(&bytes);
+        let mut state_of = BTreeMap::from([(plain.start(), 1)]);
+        let mut waiting = vec![plain.start()];
+        while let Some(set) = waiting.pop() {
+            let state = state_of[&set];
+            for code in 0..plain.width() {
+                let reached = plain.after(&set, code);
+                let target = book.entry(state, code);
+                assert_eq!(reached.is_empty(), target == 0);
+                if target != 0 && !state_of.contains_key(&reached) {
+                    waiting.push(reached.clone());
+                }
+                if target != 0 {
+                    assert_eq!(*state_of.entry(reached).or_insert(target), target);
+                }
+            }
+        }
+        let decoded = policy::read(&bytes).unwrap();
+        assert_eq!(state_of.len(), explore(&decoded).unwrap().situations.len());
+        assert_eq!(
+            state_of.values().collect::<BTreeSet<_>>().len(),
+            book.states()
+        );
+    }
+}
+
+/// Classes of states by the histories possible from them, refined by rows.
+fn classes(book: &Book) -> usize {
+    let mut class_of = vec![0; book.states() + 1];
+    class_of[0] = usize::MAX;
+    let mut count = 1;
+    loop {
+        let mut numbers = BTreeMap::new();
+        let mut refined = class_of.clone();
+        for state in 1..=book.states() {
+            let row: Vec<usize> = book.rows[state - 1]
+                .iter()
+                .map(|&target| class_of[target as usize])
+                .collect();
+            let fresh = numbers.len();
+            refined[state] = *numbers.entry((class_of[state], row)).or_insert(fresh);
+        }
+        if numbers.len() == count {
+            return count;
+        }
+        (class_of, count) = (refined, numbers.len());
+    }
+}
+
+#[test]
+fn states_of_a_built_book_are_told_apart() {
+    let mut joined = 0;
+    for (bytes, book) in built(0..300) {
+        assert_eq!(classes(&book), book.states());
+        let situations = explore(&policy::read(&bytes).unwrap())
+            .unwrap()
+            .situations
+            .len();
+        joined += usize::from(situations > book.states());
+    }
+    assert!(joined > 50, "{joined}");
+}
+
+#[test]
+fn states_of_a_built_book_are_numbered_by_their_earliest_history() {
+    for (_, book) in built(0..300) {
+        let mut met = vec![1];
+        for place in 0..book.states() {
+            let state = *met.get(place).expect("every state is reached");
+            for code in 0..book.frame.width() {
+                let target = book.entry(state, code);
+                if target != 0 && !met.contains(&target) {
+                    met.push(target);
+                }
+            }
+        }
+        assert!(met.iter().copied().eq(1..=book.states()));
+    }
+}
+
+/// The order of the rules and what their levels are called change nothing.
+#[test]
+fn equivalent_policies_have_equal_books() {
+    for (bytes, book) in built(0..300) {
+        let mut decoded = policy::read(&bytes).unwrap();
+        decoded.rules.reverse();
+        if decoded.rules.len() < policy::MOST_RULES {
+            decoded.rules.push(decoded.rules[0].clone());
+        }
+        let levels: BTreeSet<u8> = decoded.rules.iter().map(|rule| rule.level).collect();
+        for rule in &mut decoded.rules {
+            rule.level = levels
+                .iter()
+                .position(|&level| level == rule.level)
+                .unwrap() as u8;
+        }
+        assert_eq!(build(&policy::write(&decoded)).as_ref(), Ok(&book));
+    }
+}
+
+#[test]
+fn generated_books_pass_the_checks() {
+    let mut unreached = 0;
+    let mut alike = 0;
+    for seed in 0..300 {
+        let bytes = generate::book(seed);
+        let book = book::read(&bytes).expect("a book that passes");
+        assert_eq!(book.to_bytes(), bytes);
+        assert_eq!(
+            (requests(&bytes), width(&bytes)),
+            (book.frame.requests(), book.frame.width())
+        );
+        assert_eq!(
+            entry(&bytes, book.states(), 0),
+            book.entry(book.states(), 0)
+        );
+        let led_to: BTreeSet<u8> = book.rows.iter().flatten().copied().collect();
+        unreached += usize::from((2..=book.states() as u8).any(|state| !led_to.contains(&state)));
+        alike += usize::from(classes(&book) < book.states());
+    }
+    assert!(unreached > 50 && alike > 50, "{unreached} {alike}");
+}
+
+/// For each kind of input, a sum over the bytes for the first 40 seeds.
+const SUMS: [(&str, u64); 13] = [
+    ("policy", 0xDA23_5E0E_3629_2C1D),
+    ("policy-pair-first", 0x3480_96C1_D3A2_B227),
+    ("policy-pair-second", 0xCE55_9955_F26C_296D),
+    ("damaged-policy", 0xE26D_9C5E_24AF_C685),
+    ("book", 0x2D75_FC9B_E548_AA14),
+    ("damaged-book", 0x29C0_5F4B_412B_832F),
+    ("late-finding-book", 0xA4A3_E4C4_8E6D_7E65),
+    ("pair-first", 0xBA47_DF4E_0013_998B),
+    ("pair-second", 0x8288_C3B3_8084_4E0B),
+    ("longest-pair-first", 0xD5F4_9696_4BFC_55EA),
+    ("longest-pair-second", 0xEA68_8767_5B43_A397),
+    ("faulty-pair-first", 0x9047_7D5D_CE04_3905),
+    ("faulty-pair-second", 0xDD60_13CD_9187_4690),
+];
+
+/// The bytes that the generators give for a seed are the same forever.
+#[test]
+fn generators_give_the_same_bytes_forever() {
+    let sums = generate::KINDS.map(|kind| {
+        let mut sum: u64 = 0xCBF2_9CE4_8422_2325;
+        for seed in 0..40 {
+            for byte in generate::one(kind, seed).unwrap() {
+                sum = (sum ^ u64::from(byte)).wrapping_mul(0x0000_0100_0000_01B3);
+            }
+        }
+        (kind, sum)
+    });
+    assert_eq!(sums, SUMS);
+    assert_eq!(generate::codes(1, 100, 6), [10, 80, 97, 51, 68, 25]);
+}
