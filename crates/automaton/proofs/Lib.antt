@@ -3,6 +3,8 @@ pub mod Machines
 pub mod Counting
 pub mod Exploring
 pub mod Earliest
+pub mod Congruence
+pub mod Turns
 pub mod WellFormed
 pub mod Refining
 pub mod Settled

@@ -1,0 +1,29 @@
+-- Rows 12 and 14 as the code takes them: the start of a book in one test, its entries in two.
+use mathlib.Core.Bool.{Bool, _&&_}
+use mathlib.Core.List.{List}
+use Prim.Native.Nat.{ℕ, zero, suc, max, _+_, _*_}
+use lib.Dec.{leb}
+use lib.ListN.{length}
+use Rattle.automaton.specs.Below.{allBelow}
+use Rattle.definitions.specs.Bytes.{byte, hasMark, hasVersion1}
+use Rattle.definitions.specs.Book.{events, width, states}
+
+-- "book under 12 bytes, mark or version"
+abbrev pub isMarked : List ℕ → Bool
+isMarked b = leb 12 (length b) && hasMark 0x42 0x4F 0x4B b && hasVersion1 b
+
+-- the greatest of the first k entries, counted through all rows
+abbrev pub greatest : List ℕ → ℕ → ℕ
+greatest b zero = 0
+greatest b (suc k) = max (greatest b k) (byte b (12 + k))
+
+-- event e leads to a state, in the row that begins at byte `at`
+abbrev pub leadsOn : List ℕ → ℕ → ℕ → Bool
+leadsOn b at e = leb 1 (byte b (at + e))
+
+-- every event does, in row i counted from 0
+abbrev pub rowLeadsOn : List ℕ → ℕ → Bool
+rowLeadsOn b i = allBelow (events b) (leadsOn b (12 + i * width b))
+
+abbrev pub eventsLeadOn : List ℕ → Bool
+eventsLeadOn b = allBelow (states b) (rowLeadsOn b)

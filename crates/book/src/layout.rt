@@ -1,0 +1,67 @@
+// What stands where in a book. Nothing here turns a book down: each function says what it relies on.
+ghost use mathlib.Core.Path.{_≡_};
+ghost use Prim.Native.Nat.{_≤_, _<_};
+ghost use lib.ListN.{length};
+ghost use Rattle.definitions.specs.Book as Book;
+ghost use Rattle.definitions.specs.Bytes.{within as isWithin};
+ghost use Rattle.book.specs.Passed.{LaidOut};
+use automaton::wide;
+
+pub fn within(low: usize, x: usize, high: usize) -> bool
+    ensures { λ r. ⌜ r ≡ isWithin low x high ⌝ }
+{
+    if x < low {
+        return false;
+    }
+    x <= high
+}
+
+// E.
+pub fn events(book: &[u8]) -> usize
+    requires { ⌜ 12 ≤ length (now book) ⌝ }
+    ensures { λ r. ⌜ r ≡ Book.events (now (book .entry)) ⌝ }
+{
+    wide(book[5])
+}
+
+// n.
+pub fn states(book: &[u8]) -> usize
+    requires { ⌜ 12 ≤ length (now book) ⌝ }
+    ensures { λ r. ⌜ r ≡ Book.states (now (book .entry)) ⌝ }
+{
+    wide(book[11])
+}
+
+// Q, the product of the value counts.
+pub fn requests(book: &[u8]) -> usize
+    requires { ⌜ (12 ≤ length (now book)) × (Book.fields (now book) ≤ 4) ⌝ }
+    ensures { λ r. ⌜ r ≡ Book.requests (now (book .entry)) ⌝ }
+{
+    let fields = wide(book[6]);
+    let mut product = 1;
+    let mut f = 0;
+    while f < fields {
+        product *= wide(book[7 + f]);
+        f += 1;
+    }
+    product
+}
+
+// w, the number of codes.
+pub fn width(book: &[u8]) -> usize
+    requires { ⌜ LaidOut (now book) ⌝ }
+    ensures { λ r. ⌜ r ≡ Book.width (now (book .entry)) ⌝ }
+{
+    events(book) + 2 * requests(book)
+}
+
+// Entry c of row s: the state after code c, 0 if it is not possible. The caller hands in the width, which it takes once.
+pub fn entry(book: &[u8], width: usize, s: usize, c: usize) -> usize
+    requires { ⌜ LaidOut (now book) ⌝ }
+    requires { ⌜ (width ≡ Book.width (now book)) × (c < width) ⌝ }
+    requires { ⌜ (1 ≤ s) × (s ≤ Book.states (now book)) ⌝ }
+    ensures { λ r. ⌜ r ≡ Book.entry (now (book .entry)) s c ⌝ }
+{
+    let at = 12 + (s - 1) * width + c;
+    wide(book[at])
+}

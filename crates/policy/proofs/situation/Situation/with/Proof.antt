@@ -1,0 +1,14 @@
+-- `policy::situation::Situation::with` meets its contract.
+use borrow.Author.Needs.{needs}
+use Rattle.policy.proofs.Bits.{one-shifted}
+use Rattle.policy.proofs.situation.Situation.with.Statement.{statement}
+use Rattle.policy.proofs.situation.Situation.with.Tie as tie
+
+shl-t4 : tie.Need-shl-t4
+shl-t4 c = search needs
+
+returns : tie.Need-returns
+returns c = rw (one-shifted (c .before .args .v) (c .before .pre))
+
+pub with-spec : {M : Type 1} → statement M
+with-spec = tie.close (tie.spec shl-t4 returns)

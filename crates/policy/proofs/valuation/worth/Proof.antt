@@ -1,0 +1,59 @@
+-- `policy::valuation::worth` meets its contract. The loop's invariant: the product is that of the numbers of values of the variables before j.
+use mathlib.Core.Path.{_≡_}
+use Prim.Native.Nat.{_≤_, _-_, _+_}
+use native.Mathlib.Omega.{arith}
+use borrow.Author.Needs.{needs}
+use Rattle.definitions.specs.Valuation.{valuesOf}
+use Rattle.policy.proofs.Products.{Multiplied, multiplied-none, multiplied-more, next-fits}
+use Rattle.policy.proofs.valuation.worth.Statement.{statement}
+use Rattle.policy.proofs.valuation.worth.Tie as tie
+
+abbrev Inv-loop : tie.InvT-loop
+Inv-loop policy table n product₀ j₀ product j = (j ≤ n) × Multiplied (valuesOf policy) j product
+
+abbrev μ-loop : tie.MeasureT-loop
+μ-loop policy table n product₀ j₀ product j = n - j
+
+loop-holds : tie.Need-loop-holds Inv-loop μ-loop
+loop-holds c = (search needs, multiplied-none (valuesOf (c .before .before .args .policy .now)))
+
+bound-requires : tie.Need-bound-requires Inv-loop μ-loop
+bound-requires c κs = search needs
+
+add-product : tie.Need-add-product Inv-loop μ-loop
+add-product c = search needs
+
+mul-product : tie.Need-mul-product Inv-loop μ-loop
+mul-product c = record { fits = next-fits (c .before .before .loop .j) (c .before .before .loop .product) (c .bound .result + 1) (c .before .before .loop .inv .1 .1) (omega arith) (omega arith) }
+
+add-j : tie.Need-add-j Inv-loop μ-loop
+add-j c = search needs
+
+loop-less : tie.Need-loop-less Inv-loop μ-loop
+loop-less c = search needs
+
+loop-again : tie.Need-loop-again Inv-loop μ-loop
+loop-again c = (
+  omega arith,
+  multiplied-more (valuesOf (c .before .before .before .before .before .args .policy .now)) (c .before .before .loop .j) (c .before .before .loop .product) (c .bound .result + 1) (c .before .before .loop .inv .1) (omega arith) (omega arith),
+)
+
+returns : tie.Need-returns Inv-loop μ-loop
+returns c =
+    let e : c .before .loop .j ≡ c .before .before .before .before .args .n = omega arith in
+    rw (← e) (c .before .loop .inv .1 .0)
+
+pub worth-spec : {M : Type 1} → statement M
+worth-spec =
+    tie.close
+    (tie.spec
+    Inv-loop
+    μ-loop
+    loop-holds
+    bound-requires
+    add-product
+    mul-product
+    add-j
+    loop-less
+    loop-again
+    returns)

@@ -1,0 +1,59 @@
+// Situations: a set of valuations as the bits of a word.
+ghost use mathlib.Core.Path.{_≡_};
+ghost use Prim.Native.Nat.{_<_};
+ghost use Rattle.definitions.specs.Bytes.{bit};
+ghost use Rattle.definitions.specs.Situation.{emptySet, startSituation, insert, union, isEmpty};
+
+// Bit v of the set says that valuation v is in it. The empty set is no situation: it stands for a step that is not possible.
+pub struct Situation {
+    pub set: u64,
+}
+
+impl Situation {
+    pub const START: Situation = Situation { set: 1 };
+
+    pub const EMPTY: Situation = Situation { set: 0 };
+
+    // The situation before any step: all variables are zero.
+    pub fn start() -> Situation
+        ensures { λ r. ⌜ r .set ≡ startSituation ⌝ }
+    {
+        Situation::START
+    }
+
+    pub fn empty() -> Situation
+        ensures { λ r. ⌜ r .set ≡ emptySet ⌝ }
+    {
+        Situation::EMPTY
+    }
+
+    pub fn is_empty(self) -> bool
+        ensures { λ r. ⌜ r ≡ isEmpty (self .set) ⌝ }
+    {
+        self.set == 0
+    }
+
+    pub fn has(self, v: usize) -> bool
+        requires { ⌜ v < 64 ⌝ }
+        ensures { λ r. ⌜ r ≡ bit (self .set) v ⌝ }
+    {
+        (self.set >> v) % 2 == 1
+    }
+
+    pub fn with(self, v: usize) -> Situation
+        requires { ⌜ v < 64 ⌝ }
+        ensures { λ r. ⌜ r .set ≡ insert v (self .set) ⌝ }
+    {
+        Situation {
+            set: self.set | (1u64 << v),
+        }
+    }
+
+    pub fn plus(self, other: Situation) -> Situation
+        ensures { λ r. ⌜ r .set ≡ union (self .set) (other .set) ⌝ }
+    {
+        Situation {
+            set: self.set | other.set,
+        }
+    }
+}

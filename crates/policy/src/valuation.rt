@@ -1,0 +1,68 @@
+// Row 10: the variables' bounds, and the number of valuations.
+ghost use mathlib.Core.Path.{_≡_};
+ghost use Prim.Native.Nat.{_<_, _≤_, max};
+ghost use lib.Dec.{leb};
+ghost use Rattle.definitions.specs.Policy.{variables};
+ghost use Rattle.definitions.specs.Valuation.{tested, bound, worth, valuations};
+ghost use Rattle.policy.specs.Sized.{TableOf, RuleOf};
+use super::header;
+use super::record;
+
+fn greater(a: usize, b: usize) -> usize
+    ensures { λ r. ⌜ r ≡ max a b ⌝ }
+{
+    if a < b { b } else { a }
+}
+
+// The greater number that a rule tests variable j with.
+fn tested(policy: &[u8], rule: &[u8], j: usize) -> usize
+    requires { ⌜ RuleOf (now policy) (now rule) × (j < variables (now policy)) ⌝ }
+    ensures { λ r. ⌜ (r ≡ tested (now (policy .entry)) (now (rule .entry)) j) × (r < 256) ⌝ }
+{
+    greater(record::ge(policy, rule, j), record::lt(policy, rule, j))
+}
+
+// The bound of variable j: the greatest number that a rule tests it with.
+pub fn bound(policy: &[u8], table: &[u8], j: usize) -> usize
+    requires { ⌜ TableOf (now policy) (now table) × (j < variables (now policy)) ⌝ }
+    ensures { λ r. ⌜ (r ≡ bound (now (policy .entry)) j) × (r < 256) ⌝ }
+{
+    let size = header::rule_size(policy);
+    let n = header::rules(policy);
+    let mut most = 0;
+    let mut k = 0;
+    while k < n {
+        let at = k * size;
+        most = greater(most, tested(policy, &table[at..], j));
+        k += 1;
+    }
+    most
+}
+
+// How many valuations the first n variables have: what one of variable n is worth in a valuation's number.
+pub fn worth(policy: &[u8], table: &[u8], n: usize) -> usize
+    requires { ⌜ TableOf (now policy) (now table) × (n ≤ variables (now policy)) ⌝ }
+    ensures { λ r. ⌜ r ≡ worth (now (policy .entry)) n ⌝ }
+{
+    let mut product = 1;
+    let mut j = 0;
+    while j < n {
+        product = product * (bound(policy, table, j) + 1);
+        j += 1;
+    }
+    product
+}
+
+pub fn valuations(policy: &[u8], table: &[u8]) -> usize
+    requires { ⌜ TableOf (now policy) (now table) ⌝ }
+    ensures { λ r. ⌜ r ≡ valuations (now (policy .entry)) ⌝ }
+{
+    worth(policy, table, header::variables(policy))
+}
+
+pub fn valuations_hold(policy: &[u8], table: &[u8]) -> bool
+    requires { ⌜ TableOf (now policy) (now table) ⌝ }
+    ensures { λ r. ⌜ r ≡ leb (valuations (now (policy .entry))) 64 ⌝ }
+{
+    valuations(policy, table) <= 64
+}
