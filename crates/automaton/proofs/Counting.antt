@@ -141,6 +141,11 @@ module _ {A : Type 0} (f : A → Bool) where
       go true e ih = e
       go false e ih = let r = one-on-suc (placeOf f xs) k e in rw (ih (r .0) (r .1)) (ap suc (sym (r .2)))
 
+  -- one that does not pass at its end changes nothing
+  pub place-other : (xs : List A) (x : A) → f x ≡ false → placeOf f (xs ++ (x ∷ [])) ≡ placeOf f xs
+  place-other [] x e = rw e
+  place-other (y ∷ xs) x e = ap (λ (n : ℕ). cond (f y) 1 (oneOn n)) (place-other xs x e)
+
   -- and the first that passes may come last
   pub place-end : (xs : List A) (x : A) → placeOf f xs ≡ 0 → f x ≡ true → placeOf f (xs ++ (x ∷ [])) ≡ suc (length xs)
   place-end [] x e q = rw q

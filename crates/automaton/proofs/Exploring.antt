@@ -40,10 +40,10 @@ pub record Front (found more : List Reached) : Type 0 where
   pub rest : List Reached
   pub whole : more ≡ found ++ rest
 
-front-refl : (found : List Reached) → Front found found
+pub front-refl : (found : List Reached) → Front found found
 front-refl found = record { rest = []; whole = sym (append-nil found) }
 
-front-trans : {found more most : List Reached} → Front found more → Front more most → Front found most
+pub front-trans : {found more most : List Reached} → Front found more → Front more most → Front found most
 front-trans {found} a b = record {
   rest = a .rest ++ b .rest;
   whole = b .whole ∙ ap (λ (l : List Reached). l ++ b .rest) (a .whole) ∙ append-assoc found (a .rest) (b .rest);
@@ -82,7 +82,7 @@ module _ (P : List Reached → Type 0) (found : List Reached) (h : History) wher
 pub add-front : (found : List Reached) (s : ℕ) (h : History) → Front found (add found s h)
 add-front found s h = add-keeps (Front found) found h s (front-refl found) (λ _ _. record { rest = record { state = s; history = h } ∷ []; whole = refl })
 
-number-end : (found : List Reached) (s : ℕ) (h : History) → isState s ≡ true → numberIn found s ≡ 0
+pub number-end : (found : List Reached) (s : ℕ) (h : History) → isState s ≡ true → numberIn found s ≡ 0
     → numberIn (found ++ (record { state = s; history = h } ∷ [])) s ≡ suc (length found)
 number-end found zero h p e = absurd (false≢true p)
 number-end found (suc s) h p e = place-end (isAt (suc s)) found (record { state = suc s; history = h }) e (eq-eqb (suc s) (suc s) refl)

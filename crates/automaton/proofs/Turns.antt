@@ -1,7 +1,7 @@
 -- Breadth-first search in turns: what is found so far, with what is still to come, is all that is reached. A list of states only grows, at its end.
-use mathlib.Core.Path.{_≡_, refl, sym, ap, _∙_}
+use mathlib.Core.Path.{_≡_, refl, ap, _∙_}
 use mathlib.Core.Bool.{Bool, cond, true, false}
-use mathlib.Core.List.{List, [], _∷_, _++_, append-assoc, append-nil}
+use mathlib.Core.List.{List, [], _∷_, _++_}
 use Prim.Native.Nat.{ℕ, zero, suc, _-_, _<_, _≤_}
 use native.Mathlib.Nat.{sub-zero}
 use native.Mathlib.Decide.{decLe}
@@ -11,16 +11,7 @@ use lib.ListN.{length, getD}
 use borrow.Author.Tests.{lt-ltb, le-ltb}
 use Rattle.automaton.specs.Machine.{Machine, step}
 use Rattle.automaton.specs.Explore.{Reached, visit, unreached, explore, startOf, reached}
-use Rattle.automaton.proofs.Exploring.{Front, add-front, visit-front}
-
-pub front-refl : (found : List Reached) → Front found found
-front-refl found = record { rest = []; whole = sym (append-nil found) }
-
-pub front-trans : {found more most : List Reached} → Front found more → Front more most → Front found most
-front-trans {found} a b = record {
-  rest = a .rest ++ b .rest;
-  whole = b .whole ∙ ap (λ (l : List Reached). l ++ b .rest) (a .whole) ∙ append-assoc found (a .rest) (b .rest);
-}
+use Rattle.automaton.proofs.Exploring.{Front, front-refl, front-trans, add-front, visit-front}
 
 module _ (m : Machine) (t : Reached) (found : List Reached) where
   pub visit-grows : (c k : ℕ) → c ≤ k → Front (visit m t c found) (visit m t k found)

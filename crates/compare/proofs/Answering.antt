@@ -1,0 +1,140 @@
+-- The rows of a comparison judged in order, and its answer and its buffer from what was found.
+use mathlib.Core.Path.{_≡_, refl, ap, sym, _∙_}
+use mathlib.Core.Bool.{Bool, true, false, not}
+use mathlib.Core.List.{List, [], _∷_, _++_}
+use mathlib.Core.Option.{Option}
+use Prim.Native.Nat.{ℕ, zero, suc, _+_, _≤_, _<_}
+use native.Mathlib.Omega.{arith}
+use lib.Dec.{leb}
+use lib.ListN.{length, getD, take, drop, set, length-append}
+use lib.Seq.{drop-cons, set-append-seam, append-snoc, take-at}
+use borrow.Author.Tests.{le-leb, lt-leb, leb-true, eq-eqb, ne-eqb, not-true, not-false}
+use Rattle.automaton.specs.Below.{sameList}
+use Rattle.automaton.specs.History.{History}
+use Rattle.definitions.specs.Answer.{Answer, answer, refused, given, judge, thenJudge, written, afterCall, historyBytes}
+use Rattle.definitions.specs.Book.{frame, width, states}
+use Rattle.definitions.specs.Refusal.{bookRefusal, row15}
+use Rattle.definitions.specs.Compare.{comparison, compareRefusal, compareAnswer, compareBuffer}
+use Rattle.book.proofs.Passing.{passed}
+use Rattle.search.specs.Trail.{historyAt}
+use Rattle.search.proofs.Trails.{history-short}
+use Rattle.compare.specs.Search.{Books, Traced, differenceAt}
+use Rattle.compare.proofs.Frames.{same-width}
+
+-- ---- the rows
+module _ (b d buffer : List ℕ) where
+  pub too-short : length buffer < 256 → 1 ≡ compareRefusal b d buffer
+  unfolding compareRefusal
+  too-short l = rw (lt-leb 256 (length buffer) l)
+
+  module _ (long : 256 ≤ length buffer) (x : ℕ) (ex : x ≡ bookRefusal b) where
+    pub by-first : (x ≡ 0 → ⊥) → x ≡ compareRefusal b d buffer
+    unfolding compareRefusal
+    by-first n = rw (le-leb 256 (length buffer) long, ← ex, ne-eqb x 0 n)
+
+    module _ (passes : x ≡ 0) (y : ℕ) (ey : y ≡ bookRefusal d) where
+      pub by-second : (y ≡ 0 → ⊥) → y ≡ compareRefusal b d buffer
+      unfolding compareRefusal
+      by-second n = rw (le-leb 256 (length buffer) long, ← ex, passes, ← ey, ne-eqb y 0 n)
+
+      module _ (passes′ : y ≡ 0) (t : Bool) (et : t ≡ sameList (frame b) (frame d)) where
+        pub by-frame : not t ≡ true → 15 ≡ compareRefusal b d buffer
+        unfolding compareRefusal row15
+        by-frame e = rw (le-leb 256 (length buffer) long, ← ex, passes, ← ey, passes′, ← et, not-true t e)
+
+        pub by-none : not t ≡ false → 0 ≡ compareRefusal b d buffer
+        unfolding compareRefusal row15
+        by-none e = rw (le-leb 256 (length buffer) long, ← ex, passes, ← ey, passes′, ← et, not-false t e)
+
+-- no row turns the call down
+pub record Passing (b d buffer : List ℕ) : Type 0 where
+  pub long : 256 ≤ length buffer
+  pub first : bookRefusal b ≡ 0
+  pub second : bookRefusal d ≡ 0
+  pub frames : sameList (frame b) (frame d) ≡ true
+
+judge-none : (k : ℕ) (t : Bool) (later : ℕ) → judge (suc k) t later ≡ 0 → (t ≡ true) × (later ≡ 0)
+judge-none k true later e = (refl, e)
+judge-none k false later e = absurd (omega arith)
+
+then-none : (first later : ℕ) → thenJudge first later ≡ 0 → (first ≡ 0) × (later ≡ 0)
+then-none zero later e = (refl, e)
+then-none (suc first) later e = absurd (omega (arith, rw (ne-eqb (suc first) 0 (λ q. omega arith)) at e))
+
+pub passing : (b d buffer : List ℕ) → compareRefusal b d buffer ≡ 0 → Passing b d buffer
+unfolding compareRefusal row15
+passing b d buffer e =
+    let room = judge-none 0 (leb 256 (length buffer)) (thenJudge (bookRefusal b) (thenJudge (bookRefusal d) (row15 b d))) e in
+    let first = then-none (bookRefusal b) (thenJudge (bookRefusal d) (row15 b d)) (room .1) in
+    let second = then-none (bookRefusal d) (row15 b d) (first .1) in
+    record {
+      long = leb-true 256 (length buffer) (room .0);
+      first = first .0;
+      second = second .0;
+      frames = judge-none 14 (sameList (frame b) (frame d)) 0 (second .1) .0;
+    }
+
+pub passing-books : (b d buffer : List ℕ) → Passing b d buffer → (w n : ℕ) → w ≡ width b → n ≡ states b → Books b d w n
+passing-books b d buffer p w n ew en =
+    let first = passed b (p .first) in
+    record {
+      first = first;
+      second = passed d (p .second);
+      widthFirst = ew;
+      widthSecond = ew ∙ same-width b d (p .frames) (first .laidOut .fewFields);
+      statesFirst = en;
+    }
+
+-- ---- the answer
+refused-answer : (x : ℕ) → (x ≡ 0 → ⊥) → (found : Option History) → refused x ≡ answer x found
+refused-answer zero n found = absurd (n refl)
+refused-answer (suc x) n found = refl
+
+refused-buffer : (x : ℕ) → (x ≡ 0 → ⊥) → (front buffer : List ℕ) → buffer ≡ afterCall x front buffer
+refused-buffer x n front buffer = rw (ne-eqb x 0 n)
+
+given-answer : (x : ℕ) → x ≡ 0 → (found : Option History) (a : Answer (Option History)) → a ≡ given found → a ≡ answer x found
+given-answer zero e found a ea = ea
+given-answer (suc x) e found a ea = absurd (omega arith)
+
+pub given-buffer : (x : ℕ) → x ≡ 0 → (front buffer : List ℕ) → afterCall x front buffer ≡ written front buffer
+given-buffer x e front buffer = rw (eq-eqb x 0 e)
+
+module _ (b d buffer : List ℕ) (x : ℕ) (ex : x ≡ compareRefusal b d buffer) where
+  pub answer-refused : (x ≡ 0 → ⊥) → (refused x ≡ compareAnswer b d buffer) × (buffer ≡ compareBuffer b d buffer)
+  unfolding compareAnswer compareBuffer
+  answer-refused n = (
+    refused-answer x n (comparison b d) ∙ ap (λ (k : ℕ). answer k (comparison b d)) ex,
+    refused-buffer x n (historyBytes (comparison b d)) buffer ∙ ap (λ (k : ℕ). afterCall k (historyBytes (comparison b d)) buffer) ex,
+  )
+
+  pub answer-given : x ≡ 0 → (a : Answer (Option History)) (after : List ℕ) → a ≡ given (comparison b d) → after ≡ written (historyBytes (comparison b d)) buffer
+      → (a ≡ compareAnswer b d buffer) × (after ≡ compareBuffer b d buffer)
+  unfolding compareAnswer compareBuffer
+  answer-given passes a after ea eb = (
+    given-answer x passes (comparison b d) a ea ∙ ap (λ (k : ℕ). answer k (comparison b d)) ex,
+    eb ∙ (sym (given-buffer x passes (historyBytes (comparison b d)) buffer) ∙ ap (λ (k : ℕ). afterCall k (historyBytes (comparison b d)) buffer) ex),
+  )
+
+-- ---- the buffer
+written-more : (h : History) (c : ℕ) (buffer : List ℕ) → length h < length buffer → set (written h buffer) (length h) c ≡ written (h ++ (c ∷ [])) buffer
+written-more h c buffer l =
+    let longer : length (h ++ (c ∷ [])) ≡ suc (length h) = length-append h (c ∷ []) ∙ omega arith in
+    ap (λ (ys : List ℕ). set (h ++ ys) (length h) c) (drop-cons buffer (length h) 0 l)
+    ∙ (set-append-seam h (getD buffer (length h) 0) (drop (suc (length h)) buffer) c
+    ∙ (sym (append-snoc h c (drop (suc (length h)) buffer)) ∙ rw longer))
+
+-- the history of a place is written, and then a code after it
+pub difference-written : (trail : List ℕ) (i c n : ℕ) (buffer after : List ℕ) → Traced i c trail → 256 ≤ length buffer → n ≡ length (historyAt trail i)
+    → after ≡ written (historyAt trail i) buffer
+    → (n + 1 ≡ length (differenceAt trail i c)) × (set after n c ≡ written (differenceAt trail i c) buffer)
+difference-written trail i c n buffer after t room en ea =
+    let short = history-short trail i (t .falls) in
+    let h = historyAt trail i in (
+      rw length-append (omega arith),
+      rw (ea, en) (written-more h c buffer (omega (arith, t .few))),
+    )
+
+-- what is written can be read again
+pub take-written : (h : History) (n : ℕ) (buffer after : List ℕ) → n ≡ length h → after ≡ written h buffer → take n after ≡ h
+take-written h n buffer after en ea = rw ea (take-at h (drop (length h) buffer) n (sym en))

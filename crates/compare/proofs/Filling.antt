@@ -1,0 +1,62 @@
+-- A list that is filled from its front, place i with f i: what holds on the way.
+use mathlib.Core.Path.{_≡_, refl, ap, sym, _∙_}
+use mathlib.Core.List.{List, [], _∷_, _++_, map, append-nil}
+use Prim.Native.Nat.{ℕ, zero, suc, _+_, _≤_, _<_}
+use native.Mathlib.Numerals.{add-one}
+use native.Mathlib.Omega.{arith}
+use lib.ListN.{length, getD, set, drop, length-map, length-set, drop-of-length-le}
+use lib.Seq.{drop-cons, append-snoc, set-at, getD-at, ext-getD}
+use Rattle.automaton.specs.Below.{listBelow}
+use Rattle.automaton.proofs.Counting.{length-list-below, getD-list-below}
+
+-- the first i places are filled, and the others are as they were
+pub record Filled (f : ℕ → ℕ) (old : List ℕ) (i : ℕ) (l : List ℕ) : Type 0 where
+  pub within : i ≤ length old
+  pub long : length l ≡ length old
+  pub is : l ≡ listBelow i f ++ drop i old
+
+pub filled-begun : (f : ℕ → ℕ) (old : List ℕ) → Filled f old 0 old
+filled-begun f old = record { within = omega arith; long = refl; is = refl }
+
+module _ (f : ℕ → ℕ) (old : List ℕ) (i : ℕ) (l : List ℕ) (S : Filled f old i l) where
+  pub filled-done : length old ≤ i → l ≡ listBelow (length old) f
+  filled-done b =
+      let all : i ≡ length old = omega (arith, S .within) in
+      S .is ∙ rw (drop-of-length-le old {i = i} b, append-nil, all)
+
+  module _ (b : i < length old) where
+    next : l ≡ listBelow i f ++ (getD old i 0 ∷ drop (suc i) old)
+    next = S .is ∙ rw (drop-cons old i 0 b)
+
+    -- what is still to be filled
+    pub filled-read : getD l i 0 ≡ getD old i 0
+    filled-read = rw next (getD-at (listBelow i f) (getD old i 0) (drop (suc i) old) 0 i (length-list-below f i))
+
+    pub filled-turn : (x : ℕ) → x ≡ f i → Filled f old (i + 1) (set l i x)
+    filled-turn x e = rw add-one (record {
+      within = b;
+      long = length-set l i x ∙ S .long;
+      is =
+          ap (λ (k : List ℕ). set k i x) next
+          ∙ (set-at (listBelow i f) (getD old i 0) (drop (suc i) old) x i (length-list-below f i)
+          ∙ rw e (sym (append-snoc (listBelow i f) (f i) (drop (suc i) old))));
+    })
+
+-- a function applied to each element of a list, place by place
+module _ (g : ℕ → ℕ) where
+  pub getD-map : (l : List ℕ) (k : ℕ) → k < length l → getD (map g l) k 0 ≡ g (getD l k 0)
+  getD-map [] k b = absurd (omega arith)
+  getD-map (x ∷ l) zero b = refl
+  getD-map (x ∷ l) (suc k) b = getD-map l k (omega arith)
+
+  abbrev pub elsewhere : List ℕ → ℕ → ℕ
+  elsewhere l k = g (getD l k 0)
+
+  pub map-below : (l : List ℕ) → listBelow (length l) (elsewhere l) ≡ map g l
+  map-below l = ext-getD 0 (listBelow (length l) (elsewhere l)) (map g l) (long ∙ sym (length-map l g)) each
+    where
+      long : length (listBelow (length l) (elsewhere l)) ≡ length l
+      long = length-list-below (elsewhere l) (length l)
+
+      each : (k : ℕ) → k < length (listBelow (length l) (elsewhere l)) → getD (listBelow (length l) (elsewhere l)) k 0 ≡ getD (map g l) k 0
+      each k b = getD-list-below (elsewhere l) (length l) k 0 (omega (arith, long)) ∙ sym (getD-map l k (omega (arith, long)))

@@ -1,0 +1,108 @@
+// The comparison of two books: whether the same histories are possible in both, and else the earliest that is possible in just one.
+ghost use mathlib.Core.Path.{_≡_};
+ghost use Prim.Native.Nat.{_≤_};
+ghost use lib.ListN.{length};
+ghost use Rattle.definitions.specs.Answer.{given, written, historyBytes};
+ghost use Rattle.definitions.specs.Compare.{comparison, compareRefusal, compareAnswer, compareBuffer};
+ghost use Rattle.compare.specs.Answer.{comparedAnswer};
+ghost use Rattle.compare.specs.Search.{Traced, differenceAt, spotted, Writable};
+
+mod labels;
+mod pairs;
+
+use book::refusal;
+use book::same_frame;
+use book::states;
+use book::width;
+use pairs::Spot;
+use pairs::first_difference;
+use search::write_history;
+
+// What comparing gives: the number of the row that turns the call down, that the same histories are possible in both books, or the length of the
+// earliest history that is possible in just one, which is written to the buffer.
+pub enum Compared {
+    Refused(usize),
+    Same,
+    Differ(usize),
+}
+
+// Compares two books. Bytes of the buffer after the history stay, and on Refused or Same all of them.
+pub fn compare(first: &[u8], second: &[u8], history: &mut [u8]) -> Compared
+    ensures { λ r. ⌜ comparedAnswer r (now (history .exit)) ≡ compareAnswer (now (first .entry)) (now (second .entry)) (now (history .entry)) ⌝ }
+    ensures { λ r. ⌜ now (history .exit) ≡ compareBuffer (now (first .entry)) (now (second .entry)) (now (history .entry)) ⌝ }
+{
+    let number = refused_by(first, second, history);
+    if number != 0 {
+        return Compared::Refused(number);
+    }
+    compare_passed(first, second, history)
+}
+
+// The number of the lowest row that turns the call down, 0 if none does: row 1, rows 12 to 14 of the first book, of the second, row 15.
+fn refused_by(first: &[u8], second: &[u8], history: &[u8]) -> usize
+    ensures { λ r. ⌜ r ≡ compareRefusal (now (first .entry)) (now (second .entry)) (now (history .entry)) ⌝ }
+{
+    if history.len() < 256 {
+        return 1;
+    }
+    let by_first = refusal(first);
+    if by_first != 0 {
+        return by_first;
+    }
+    let by_second = refusal(second);
+    if by_second != 0 {
+        return by_second;
+    }
+    if !same_frame(first, second) {
+        return 15;
+    }
+    0
+}
+
+// Two books that no row turns down.
+fn compare_passed(first: &[u8], second: &[u8], history: &mut [u8]) -> Compared
+    requires { ⌜ compareRefusal (now first) (now second) (now history) ≡ 0 ⌝ }
+    ensures { λ r. ⌜ comparedAnswer r (now (history .exit)) ≡ given (comparison (now (first .entry)) (now (second .entry))) ⌝ }
+    ensures { λ r. ⌜ now (history .exit) ≡ written (historyBytes (comparison (now (first .entry)) (now (second .entry)))) (now (history .entry)) ⌝ }
+{
+    let mut pairs = [0u8; 512];
+    let mut trail = [0u8; 512];
+    let mut label = [0u8; 256];
+    let n = states(first);
+    let numbers = n + states(second) + 1;
+    let spot = first_difference(
+        first,
+        second,
+        width(first),
+        n,
+        &mut pairs,
+        &mut trail,
+        &mut label[..numbers],
+    );
+    told(spot, &trail, history)
+}
+
+// The answer for what the search found.
+fn told(spot: Spot, trail: &[u8], history: &mut [u8]) -> Compared
+    requires { ⌜ Writable spot (now trail) ⌝ }
+    requires { ⌜ 256 ≤ length (now history) ⌝ }
+    ensures { λ r. ⌜ comparedAnswer r (now (history .exit)) ≡ given (spotted spot (now (trail .entry))) ⌝ }
+    ensures { λ r. ⌜ now (history .exit) ≡ written (historyBytes (spotted spot (now (trail .entry)))) (now (history .entry)) ⌝ }
+{
+    match spot {
+        Spot::Nowhere => Compared::Same,
+        Spot::At(i, code) => Compared::Differ(write_difference(trail, i, code, history)),
+    }
+}
+
+// Writes the history of place i, and then the code, to the front of the buffer, and gives their number. Bytes after them stay.
+fn write_difference(trail: &[u8], i: usize, code: usize, history: &mut [u8]) -> usize
+    requires { ⌜ Traced i code (now trail) ⌝ }
+    requires { ⌜ 256 ≤ length (now history) ⌝ }
+    ensures { λ r. ⌜ r ≡ length (differenceAt (now (trail .entry)) i code) ⌝ }
+    ensures { λ r. ⌜ now (history .exit) ≡ written (differenceAt (now (trail .entry)) i code) (now (history .entry)) ⌝ }
+{
+    let before = write_history(trail, i, history);
+    history[before] = code as u8;
+    before + 1
+}

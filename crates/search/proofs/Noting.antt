@@ -1,0 +1,144 @@
+-- The places of a search: what they hold, and a state that is noted at the next place.
+use mathlib.Core.Path.{_≡_, refl, ap, sym, _∙_}
+use mathlib.Core.Bool.{true, false≢true}
+use mathlib.Core.List.{List, [], _∷_, _++_}
+use Prim.Native.Nat.{ℕ, zero, suc, _+_, _*_, _≤_, _<_}
+use native.Mathlib.Decide.{ℕ-discrete}
+use native.Mathlib.Numerals.{add-one}
+use native.Mathlib.Omega.{arith}
+use lib.ListN.{length, getD, set, length-append, length-set}
+use lib.Seq.{getD-set-same, getD-set-other}
+use borrow.Author.Tests.{ne-eqb}
+use Rattle.automaton.specs.History.{History}
+use Rattle.automaton.specs.Machine.{isState}
+use Rattle.automaton.specs.Explore.{Reached, isAt, numberIn, add, unreached}
+use Rattle.automaton.proofs.Counting.{length-list-below, getD-list-below, place-other}
+use Rattle.automaton.proofs.Exploring.{number-end}
+use Rattle.automaton.proofs.Congruence.{list-below-same}
+use Rattle.automaton.proofs.Parents.{Falls, Stored, trail-same, trail-last, falls-stored}
+use Rattle.definitions.specs.Bytes.{byte}
+use Rattle.book.proofs.Steps.{some-state}
+use Rattle.search.specs.Trail.{firstAt, secondAt, placed, historyAt}
+use Rattle.search.specs.Found.{reachedAt, foundIn, Searching}
+use Rattle.search.proofs.Trails.{placed-first, placed-second, placed-length}
+
+-- ---- what the places hold
+module _ (order trail : List ℕ) (n : ℕ) where
+  pub found-length : length (foundIn n order trail) ≡ n
+  unfolding foundIn
+  found-length = length-list-below (reachedAt order trail) n
+
+  pub found-at : (k : ℕ) → k < n → getD (foundIn n order trail) k unreached ≡ reachedAt order trail k
+  unfolding foundIn
+  found-at k l = getD-list-below (reachedAt order trail) n k unreached l
+
+-- state x is stored at place n, found from place i by code c
+module _ (n : ℕ) (order trail : List ℕ) (falls : Falls n (firstAt trail)) (roomOrder : n < length order) (roomTrail : 2 * n + 1 < length trail)
+    (x i c : ℕ) (low : i < n) where
+  abbrev new : Reached
+  new = record { state = x; history = historyAt trail i ++ (c ∷ []) }
+
+  parents : Stored n i (firstAt trail) (firstAt (placed trail n i c))
+  parents = placed-first trail n i c roomTrail
+
+  codes : Stored n c (secondAt trail) (secondAt (placed trail n i c))
+  codes = placed-second trail n i c roomTrail
+
+  place-stays : (k : ℕ) → k < n → reachedAt (set order n x) (placed trail n i c) k ≡ reachedAt order trail k
+  place-stays k l =
+      let state : byte (set order n x) k ≡ byte order k = getD-set-other order n k x 0 (omega arith) in
+      let history : historyAt (placed trail n i c) k ≡ historyAt trail k =
+      trail-same n (firstAt trail) (secondAt trail) falls i c (firstAt (placed trail n i c)) (secondAt (placed trail n i c)) parents codes k l in
+      rw (state, history)
+
+  place-new : reachedAt (set order n x) (placed trail n i c) n ≡ new
+  place-new =
+      let state : byte (set order n x) n ≡ x = getD-set-same order n x 0 roomOrder in
+      let history : historyAt (placed trail n i c) n ≡ historyAt trail i ++ (c ∷ []) =
+      trail-last n (firstAt trail) (secondAt trail) falls i c (firstAt (placed trail n i c)) (secondAt (placed trail n i c)) parents codes low in
+      rw (state, history)
+
+  found-stored : foundIn (suc n) (set order n x) (placed trail n i c) ≡ foundIn n order trail ++ (new ∷ [])
+  unfolding foundIn
+  found-stored =
+      let at = reachedAt (set order n x) (placed trail n i c) in
+      ap (λ (l : List Reached). l ++ (at n ∷ [])) (list-below-same at (reachedAt order trail) n place-stays)
+      ∙ ap (λ (t : Reached). foundIn n order trail ++ (t ∷ [])) place-new
+
+  falls-on : Falls (suc n) (firstAt (placed trail n i c))
+  falls-on = falls-stored n (firstAt trail) (secondAt trail) falls i c (firstAt (placed trail n i c)) (secondAt (placed trail n i c)) parents codes low
+
+-- ---- numbers
+module _ (found : List Reached) (h : History) where
+  -- a state at the end does not change the numbers of others
+  number-other : (x y : ℕ) → (y ≡ x → ⊥) → numberIn (found ++ (record { state = x; history = h } ∷ [])) y ≡ numberIn found y
+  number-other x zero n = refl
+  number-other x (suc y) n = place-other (isAt (suc y)) found (record { state = x; history = h }) (ne-eqb (suc y) x n)
+
+  add-known : (x : ℕ) → isState (numberIn found x) ≡ true → add found x h ≡ found
+  add-known zero e = refl
+  add-known (suc x) e = rw e
+
+  add-new : (x : ℕ) → isState x ≡ true → numberIn found x ≡ 0 → add found x h ≡ found ++ (record { state = x; history = h } ∷ [])
+  add-new zero p e = absurd (false≢true p)
+  add-new (suc x) p e = rw e
+
+-- the array of numbers with the next state
+module _ (found : List Reached) (h : History) (numbers : List ℕ) (room : 128 ≤ length numbers) (x : ℕ) (inside : x < 128) where
+  numbered-new : isState x ≡ true → numberIn found x ≡ 0 → ((s : ℕ) → s < 128 → byte numbers s ≡ numberIn found s)
+      → (s : ℕ) → s < 128 → byte (set numbers x (length found + 1)) s ≡ numberIn (found ++ (record { state = x; history = h } ∷ [])) s
+  numbered-new p none are s l = go (ℕ-discrete s x)
+    where
+      go : Dec (s ≡ x) → byte (set numbers x (length found + 1)) s ≡ numberIn (found ++ (record { state = x; history = h } ∷ [])) s
+      go (yes e) = rw e (getD-set-same numbers x (length found + 1) 0 (omega arith) ∙ add-one (length found) ∙ sym (number-end found x h p none))
+      go (no n) = getD-set-other numbers x s (length found + 1) 0 n ∙ are s l ∙ sym (number-other found h x s n)
+
+-- ---- state x is noted, found from place i by code c
+module _ (n : ℕ) (order trail numbers : List ℕ) (S : Searching n order trail numbers) (x i c : ℕ) (inside : x < 128) (low : i < n)
+    (few : length (add (foundIn n order trail) x (historyAt trail i ++ (c ∷ []))) ≤ 127) where
+  abbrev found : List Reached
+  found = foundIn n order trail
+
+  abbrev h : History
+  h = historyAt trail i ++ (c ∷ [])
+
+  -- r are found then, with these arrays
+  abbrev Noted : ℕ → List ℕ → List ℕ → List ℕ → Type 0
+  Noted r order′ trail′ numbers′ = Searching r order′ trail′ numbers′ × (foundIn r order′ trail′ ≡ add found x h)
+
+  pub noted-none : x ≡ 0 → Noted n order trail numbers
+  noted-none e = (S, sym (ap (λ (s : ℕ). add found s h) e))
+
+  pub noted-known : 0 < byte numbers x → Noted n order trail numbers
+  noted-known p = (S, sym (add-known found h x (some-state (numberIn found x) (λ e. omega (arith, S .numbered x inside)))))
+
+  module _ (state : x ≡ 0 → ⊥) (none : byte numbers x ≤ 0) where
+    is : isState x ≡ true
+    is = some-state x state
+
+    absent : numberIn found x ≡ 0
+    absent = omega (arith, S .numbered x inside)
+
+    more : add found x h ≡ found ++ (record { state = x; history = h } ∷ [])
+    more = add-new found h x is absent
+
+    pub noted-room : n < 127
+    noted-room =
+        omega (arith, few, ap length more ∙ length-append found (record { state = x; history = h } ∷ []), found-length order trail n)
+
+    pub noted-new : Noted (n + 1) (set order n x) (placed trail n i c) (set numbers x (n + 1))
+    noted-new =
+        let roomOrder : n < length order = omega (arith, noted-room, S .roomOrder) in
+        let roomTrail : 2 * n + 1 < length trail = omega (arith, noted-room, S .roomTrail) in
+        let grown : foundIn (n + 1) (set order n x) (placed trail n i c) ≡ found ++ (record { state = x; history = h } ∷ []) =
+        rw (add-one n) (found-stored n order trail (S .falls) roomOrder roomTrail x i c low) in
+        let next : length found + 1 ≡ n + 1 = omega (arith, found-length order trail n) in (
+          record {
+            roomOrder = rw length-set (S .roomOrder);
+            roomTrail = rw placed-length (S .roomTrail);
+            roomNumbers = rw length-set (S .roomNumbers);
+            falls = rw (add-one n) (falls-on n order trail (S .falls) roomOrder roomTrail x i c low);
+            numbered = rw (grown, ← next) (numbered-new found h numbers (S .roomNumbers) x inside is absent (S .numbered));
+          },
+          grown ∙ sym more,
+        )

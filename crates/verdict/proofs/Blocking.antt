@@ -1,0 +1,146 @@
+-- Settled marks tell the blocked states: a state that a history leads to is blocked exactly if it is not marked.
+use mathlib.Core.Path.{_≡_, refl, sym, ap, _∙_, subst}
+use mathlib.Core.Bool.{Bool, true, false, not, false≢true, true≢false}
+use mathlib.Core.List.{List, [], _∷_, _++_}
+use mathlib.Core.Option.{Option, none, some}
+use Prim.Native.Nat.{ℕ, suc, _≤_, _<_}
+use native.Mathlib.Omega.{arith}
+use lib.ListN.{length, take}
+use Rattle.automaton.specs.Below.{anyBelow, lowestBelow}
+use Rattle.automaton.specs.History.{History}
+use Rattle.automaton.specs.Machine.{after, isState, possible}
+use Rattle.automaton.specs.Explore.{Reached, firstThat}
+use Rattle.automaton.proofs.Counting.{any-below, any-below-at}
+use Rattle.automaton.proofs.Machines.{after-append}
+use Rattle.automaton.proofs.Separating.{after-within}
+use Rattle.definitions.specs.Answer.{written, historyBytes}
+use Rattle.definitions.specs.Bytes.{byte}
+use Rattle.definitions.specs.Book.{events, requests, width, states, entry, bookMachine}
+use Rattle.definitions.specs.Refusal.{bookRefusal}
+use Rattle.definitions.specs.Demands.{Events, BlockedAfter}
+use Rattle.definitions.specs.Verdict.{someRequest, answered, isBlocked, historyOf}
+use Rattle.definitions.proofs.Accepted.{BookPassed, book-passed}
+use Rattle.definitions.proofs.BookSteps.{is-state, state-is, has-states}
+use Rattle.definitions.proofs.Blocking.{unanswered-to, unanswered-from, blocked-to, blocked-from}
+use Rattle.book.specs.Passed.{Passed}
+use Rattle.book.proofs.Passing.{passed}
+use Rattle.book.proofs.Steps.{step-is-entry}
+use Rattle.search.specs.Trail as Trail
+use Rattle.search.specs.Found.{codesFrom, statesFrom, Holds}
+use Rattle.search.proofs.Reading.{holds-inside, holds-lead}
+use Rattle.verdict.specs.Marks.{marked, unmarkedAt, leadsToMark, Marks, Settled, blockedIn}
+use Rattle.verdict.proofs.Places.{first-none, first-some, take-written}
+
+same-not : (s t : Bool) → (t ≡ true → s ≡ false) → (t ≡ false → s ≡ true) → s ≡ not t
+same-not s true f g = f refl
+same-not s false f g = g refl
+
+-- ---- what settled marks say
+module _ (b : List ℕ) (p : Passed b) (marks : List ℕ) (M : Marks b marks) (S : Settled b marks) where
+  -- from a state that is not marked events lead to such states
+  event-unmarked : (s c : ℕ) → 1 ≤ s → s ≤ states b → marked marks s ≡ false → c < events b → marked marks (entry b s c) ≡ false
+  event-unmarked s c least few e l = go (marked marks (entry b s c)) refl
+    where
+      go : (t : Bool) → marked marks (entry b s c) ≡ t → t ≡ false
+      go false q = refl
+      go true q =
+          let led : anyBelow (events b) (leadsToMark b marks s) ≡ true = any-below (leadsToMark b marks s) (events b) c l q in
+          absurd (true≢false (rw (e, led) at (S s least few)))
+
+  none-answers : (s : ℕ) → 1 ≤ s → s ≤ states b → marked marks s ≡ false
+      → (es : History) → Events (events b) es → someRequest answered b (after (bookMachine b) s es) ≡ false
+  none-answers s least few e [] all = go (someRequest answered b s) refl
+    where
+      go : (t : Bool) → someRequest answered b s ≡ t → t ≡ false
+      go false q = refl
+      go true q = absurd (false≢true (sym e ∙ M .full s least few q))
+  none-answers s least few e (c ∷ es) all =
+      let l : c < events b = all 0 (omega arith) in
+      let is = step-is-entry b s c least (omega arith) in
+      rw is (none-answers (entry b s c) (p .leadsOn s c least few l) (p .low s c least few (omega arith)) (event-unmarked s c least few e l) es (λ i k. all (suc i) (omega arith)))
+
+-- ---- the state that a history leads to
+none-at : (f : ℕ → Bool) (n k : ℕ) → anyBelow n f ≡ false → k < n → f k ≡ false
+none-at f n k e l = go (f k) refl
+  where
+    go : (t : Bool) → f k ≡ t → t ≡ false
+    go false q = refl
+    go true q = absurd (false≢true (sym e ∙ any-below f n k l q))
+
+module _ (b : List ℕ) (refusal : bookRefusal b ≡ 0) (marks : List ℕ) (M : Marks b marks) (S : Settled b marks)
+    (h : History) (here : possible (bookMachine b) h ≡ true) where
+  abbrev s : ℕ
+  s = after (bookMachine b) 1 h
+
+  ok : BookPassed b
+  ok = book-passed b .0 refusal
+
+  least : 1 ≤ s
+  least = state-is s here
+
+  few : s ≤ states b
+  few = after-within (bookMachine b) (states b) (has-states b ok) 1 (ok .layout .statesSome) h
+
+  later : (es : History) (r : ℕ) → answered b (after (bookMachine b) 1 (h ++ es)) r ≡ answered b (after (bookMachine b) s es) r
+  later es r = ap (λ (t : ℕ). answered b t r) (after-append (bookMachine b) 1 h es)
+
+  marked-answers : BlockedAfter (bookMachine b) (events b) (requests b) h → marked marks s ≡ true → ⊥
+  marked-answers a e =
+      let found = M .sound s least few e in
+      let hit = any-below-at (answered b (after (bookMachine b) s (found .list))) (requests b) (found .answers) in
+      false≢true (sym (unanswered-to b (h ++ found .list) (hit .0) (a .1 (found .list) (found .events) (hit .0) (hit .1))) ∙ later (found .list) (hit .0) ∙ hit .2)
+
+  unmarked-blocks : marked marks s ≡ false → BlockedAfter (bookMachine b) (events b) (requests b) h
+  unmarked-blocks e = (
+    here,
+    λ es all r l. unanswered-from b (h ++ es) r
+        (later es r ∙ none-at (answered b (after (bookMachine b) s es)) (requests b) r (none-answers b (passed b refusal) marks M S s least few e es all) l),
+  )
+
+  blocked-is : isBlocked b s ≡ not (marked marks s)
+  blocked-is =
+      same-not (isBlocked b s) (marked marks s) (λ e. off (isBlocked b s) refl e) (λ e. blocked-to b ok h (unmarked-blocks e) .1)
+    where
+      off : (t : Bool) → isBlocked b s ≡ t → marked marks s ≡ true → t ≡ false
+      off false q e = refl
+      off true q e = absurd (marked-answers (blocked-from b ok h (here, q)) e)
+
+-- ---- the states found, w being the width
+module _ (b : List ℕ) (refusal : bookRefusal b ≡ 0) (marks : List ℕ) (M : Marks b marks) (S : Settled b marks)
+    (w : ℕ) (ew : w ≡ width b) (n : ℕ) (order trail : List ℕ) (H : Holds (statesFrom b w 1) n order trail) where
+  abbrev L : List Reached
+  L = statesFrom b w 1
+
+  p : Passed b
+  p = passed b refusal
+
+  blocked-at : (k : ℕ) → k < n → isBlocked b (byte order k) ≡ unmarkedAt marks order k
+  blocked-at k l =
+      let h = Trail.historyAt trail k in
+      let led : after (bookMachine b) 1 h ≡ byte order k =
+      subst (λ (v : ℕ). after (codesFrom b v 1) 1 h ≡ byte order k) ew (holds-lead b p w (omega arith) 1 (omega arith) (p .laidOut .someState) n order trail H k l) in
+      let state = holds-inside b p w (omega arith) 1 (omega arith) (p .laidOut .someState) n order trail H k l in
+      subst (λ (s : ℕ). isBlocked b s ≡ not (marked marks s)) led (blocked-is b refusal marks M S h (ap isState led ∙ is-state (byte order k) (state .0)))
+
+  blocked-none : n ≤ lowestBelow n (unmarkedAt marks order) → blockedIn b L ≡ none
+  unfolding blockedIn
+  blocked-none l =
+      ap (λ (found : List Reached). historyOf (firstThat (isBlocked b) found)) (sym (H .are))
+      ∙ ap historyOf (first-none (isBlocked b) order trail n (unmarkedAt marks order) blocked-at l)
+
+  blocked-some : (k : ℕ) → k ≡ lowestBelow n (unmarkedAt marks order) → k < n → blockedIn b L ≡ some (Trail.historyAt trail k)
+  unfolding blockedIn
+  blocked-some k e l =
+      ap (λ (found : List Reached). historyOf (firstThat (isBlocked b) found)) (sym (H .are))
+      ∙ ap historyOf (first-some (isBlocked b) order trail n (unmarkedAt marks order) blocked-at k e l)
+
+  -- an answer and a buffer that say what is found
+  abbrev Tells : Option History → List ℕ → List ℕ → Type 0
+  Tells answer buffer after = (answer ≡ blockedIn b L) × (after ≡ written (historyBytes (blockedIn b L)) buffer)
+
+  pub tells-none : n ≤ lowestBelow n (unmarkedAt marks order) → (buffer : List ℕ) → Tells none buffer buffer
+  tells-none l buffer = rw (blocked-none l) (refl, refl)
+
+  pub tells-blocked : (k m : ℕ) (buffer after : List ℕ) → k ≡ lowestBelow n (unmarkedAt marks order) → k < n
+      → m ≡ length (Trail.historyAt trail k) → after ≡ written (Trail.historyAt trail k) buffer → Tells (some (take m after)) buffer after
+  tells-blocked k m buffer after ek l em ea = rw (blocked-some k ek l, take-written (Trail.historyAt trail k) buffer after m em ea) (refl, ea)

@@ -1,0 +1,7 @@
+-- Laws that belong to no one function.
+pub mod Lowest
+pub mod Seeking
+pub mod Places
+pub mod Marking
+pub mod Blocking
+pub mod Judging

@@ -1,0 +1,50 @@
+-- `verdict` meets its contract.
+use Rattle.verdict.proofs.Judging.{answer-refused, answer-given}
+use borrow.Author.Needs.{needs}
+use Rattle.verdict.proofs.verdict.Statement.{statement}
+use Rattle.verdict.proofs.verdict.Tie as tie
+
+refused-by-requires : tie.Need-refused-by-requires
+refused-by-requires c κs = search needs
+
+same-length : tie.Need-same-length
+same-length c = search needs
+
+same-length-2 : tie.Need-same-length-2
+same-length-2 c = search needs
+
+same-length-3 : tie.Need-same-length-3
+same-length-3 c = search needs
+
+returns : tie.Need-returns
+returns c = let a = c .before .before .before .before .before .before .before .before .before .args in answer-refused _ _ _ _ _ (c .before .refused-by .ensures) (c .if1 .taken)
+
+judge-requires : tie.Need-judge-requires
+judge-requires c κs = search needs
+
+same-length-4 : tie.Need-same-length-4
+same-length-4 c = search needs
+
+same-length-5 : tie.Need-same-length-5
+same-length-5 c = search needs
+
+same-length-6 : tie.Need-same-length-6
+same-length-6 c = search needs
+
+returns-2 : tie.Need-returns-2
+returns-2 c = (answer-given _ _ _ _ _ (c .before .before .before .before .before .before .before .before .before .before .before .refused-by .ensures) (c .before .before .before .before .before .before .before .before .before .before .if1 .left) _ (c .before .before .before .before .before .before .judge .ensures .0), c .before .before .before .before .before .before .judge .ensures .1)
+
+pub verdict-spec : {M : Type 1} → statement M
+verdict-spec =
+    tie.close
+    (tie.spec
+    refused-by-requires
+    same-length
+    same-length-2
+    same-length-3
+    returns
+    judge-requires
+    same-length-4
+    same-length-5
+    same-length-6
+    returns-2)

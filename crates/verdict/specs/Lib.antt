@@ -1,0 +1,3 @@
+pub mod Requests
+pub mod Marks
+pub mod Answer

@@ -1,0 +1,83 @@
+// The verdict on a book: three findings over all histories possible in it.
+ghost use mathlib.Core.Path.{_≡_};
+ghost use Rattle.definitions.specs.Answer.{given};
+ghost use Rattle.definitions.specs.Verdict.{findings, verdictRefusal, verdictAnswer, verdictBuffers};
+ghost use Rattle.verdict.specs.Answer.{judgedAnswer, buffersAfter};
+
+mod finding;
+mod marks;
+mod requests;
+
+use book::refusal;
+use book::width;
+pub use finding::Blocked;
+pub use finding::Finding;
+use finding::find;
+use finding::find_blocked;
+use requests::Sought;
+use search::explore;
+
+// The three findings. The history of each that is found is at the front of its buffer.
+pub struct Findings {
+    pub conflict: Finding,
+    pub missing: Finding,
+    pub blocked: Blocked,
+}
+
+// What a verdict gives: the number of the row that turns the call down, or the findings.
+pub enum Judged {
+    Refused(usize),
+    Given(Findings),
+}
+
+// The findings on a book. The history of each that is found goes to the front of its buffer; the bytes after it stay, and so does all of the buffer of a
+// finding that is none, and all of each on a refusal.
+pub fn verdict(book: &[u8], conflict: &mut [u8], missing: &mut [u8], blocked: &mut [u8]) -> Judged
+    ensures { λ r. ⌜ judgedAnswer r (now (conflict .exit)) (now (missing .exit)) (now (blocked .exit))
+        ≡ verdictAnswer (now (book .entry)) (now (conflict .entry)) (now (missing .entry)) (now (blocked .entry)) ⌝ }
+    ensures { λ _. ⌜ buffersAfter (now (conflict .exit)) (now (missing .exit)) (now (blocked .exit))
+        ≡ verdictBuffers (now (book .entry)) (now (conflict .entry)) (now (missing .entry)) (now (blocked .entry)) ⌝ }
+{
+    let number = refused_by(book, conflict, missing, blocked);
+    if number != 0 {
+        return Judged::Refused(number);
+    }
+    judge(book, conflict, missing, blocked)
+}
+
+// The number of the lowest row that turns the call down, 0 if none does: row 1 for each buffer, then rows 12 to 14.
+fn refused_by(book: &[u8], conflict: &[u8], missing: &[u8], blocked: &[u8]) -> usize
+    ensures { λ r. ⌜ r ≡ verdictRefusal (now (book .entry)) (now (conflict .entry)) (now (missing .entry)) (now (blocked .entry)) ⌝ }
+{
+    if conflict.len() < 128 {
+        return 1;
+    }
+    if missing.len() < 128 {
+        return 1;
+    }
+    if blocked.len() < 128 {
+        return 1;
+    }
+    refusal(book)
+}
+
+// A call that no row turns down.
+fn judge(book: &[u8], conflict: &mut [u8], missing: &mut [u8], blocked: &mut [u8]) -> Judged
+    requires { ⌜ verdictRefusal (now book) (now conflict) (now missing) (now blocked) ≡ 0 ⌝ }
+    ensures { λ r. ⌜ judgedAnswer r (now (conflict .exit)) (now (missing .exit)) (now (blocked .exit)) ≡ given (findings (now (book .entry))) ⌝ }
+    ensures { λ _. ⌜ buffersAfter (now (conflict .exit)) (now (missing .exit)) (now (blocked .exit))
+        ≡ verdictBuffers (now (book .entry)) (now (conflict .entry)) (now (missing .entry)) (now (blocked .entry)) ⌝ }
+{
+    let mut order = [0u8; 128];
+    let mut trail = [0u8; 256];
+    let w = width(book);
+    let n = explore(book, w, w, 1, &mut order, &mut trail);
+    let first = find(book, w, &order, &trail, n, Sought::Conflict, conflict);
+    let second = find(book, w, &order, &trail, n, Sought::Missing, missing);
+    let third = find_blocked(book, w, &order, &trail, n, blocked);
+    Judged::Given(Findings {
+        conflict: first,
+        missing: second,
+        blocked: third,
+    })
+}
