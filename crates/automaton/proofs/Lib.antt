@@ -1,6 +1,7 @@
 pub mod Order
 pub mod Machines
 pub mod Counting
+pub mod Loops
 pub mod Exploring
 pub mod Earliest
 pub mod Congruence

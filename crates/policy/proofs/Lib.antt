@@ -1,12 +1,5 @@
-pub mod Below
 pub mod Bits
 pub mod Products
 pub mod Parts
 pub mod Checked
 pub mod Rows
-pub mod Tables
-pub mod Ranks
-pub mod Valuations
-pub mod Decided
-pub mod Targets
-pub mod Imaged

@@ -2,20 +2,11 @@
 use mathlib.Core.Path.{_≡_, ap}
 use mathlib.Core.List.{List}
 use Prim.Native.Nat.{ℕ, _+_, _-_, _*_, _<_, _≤_}
-use native.Mathlib.Nat.{mul-le-mul-right, suc-mul, le-refl}
 use native.Mathlib.Omega.{arith}
 use lib.ListN.{length, take, drop, length-drop}
-use lib.Seq.{take-all}
+use Rattle.automaton.proofs.Loops.{part-is-drop, row-within}
 use Rattle.definitions.specs.Policy.{events, fields, variables, rules, ruleSize, rule}
 use Rattle.policy.specs.Sized.{Sized, TableOf, RuleOf, ChangesOf}
-
--- what `&s[a..]` hands on
-pub part-is-drop : {A : Type 0} (a : ℕ) (s : List A) → take (length s - a) (drop a s) ≡ drop a s
-part-is-drop a s = take-all (length s - a) (drop a s) (rw length-drop (le-refl (length s - a)))
-
--- row i of n rows of w lies within
-pub row-within : (i n w : ℕ) → i < n → i * w + w ≤ n * w
-row-within i n w h = rw (← suc-mul) (mul-le-mul-right w h)
 
 module _ (p t : List ℕ) (h : TableOf p t) where
   pub table-length : length t ≡ rules p * ruleSize p + events p * variables p

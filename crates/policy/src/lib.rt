@@ -1,16 +1,12 @@
-// Reading a policy file: situations, the refusals of rows 2 to 10, the numbers of the file, and where every code leads from every valuation.
-mod counts;
-mod deciding;
-mod effects;
-mod header;
-pub mod images;
+// Reading a policy file: situations, the refusals of rows 2 to 10, the numbers of the file.
+pub mod counts;
+pub mod header;
 mod layout;
 mod masks;
-mod matching;
-mod record;
+pub mod record;
 pub mod shape;
 pub mod situation;
-mod valuation;
+pub mod valuation;
 mod values;
 
 ghost use mathlib.Core.Path.{_≡_};

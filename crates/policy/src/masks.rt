@@ -13,7 +13,7 @@ fn mask_holds(policy: &[u8], rule: &[u8], f: usize) -> bool
     requires { ⌜ RuleOf (now policy) (now rule) × (countsHold (now policy) ≡ true) × (f < fields (now policy)) ⌝ }
     ensures { λ r. ⌜ r ≡ partMaskHolds (now (policy .entry)) (now (rule .entry)) f ⌝ }
 {
-    let mask = record::mask(policy, rule, f);
+    let mask = record::mask(rule, f);
     if mask < 1 {
         return false;
     }

@@ -1,13 +1,14 @@
 // The fields of a rule's record. A rule is handed on as the part of the table that begins with its record.
 ghost use mathlib.Core.Path.{_≡_};
-ghost use Prim.Native.Nat.{_<_};
-ghost use Rattle.definitions.specs.Policy.{fields, variables, mask, decision, level, ge, lt, change};
+ghost use Prim.Native.Nat.{_+_, _*_, _<_};
+ghost use lib.ListN.{length};
+ghost use Rattle.definitions.specs.Policy.{variables, mask, decision, level, ge, lt, change};
 ghost use Rattle.policy.specs.Sized.{RuleOf};
 use super::header;
 use automaton::wide;
 
-pub fn mask(policy: &[u8], rule: &[u8], f: usize) -> usize
-    requires { ⌜ RuleOf (now policy) (now rule) × (f < fields (now policy)) ⌝ }
+pub fn mask(rule: &[u8], f: usize) -> usize
+    requires { ⌜ 2 * f + 1 < length (now rule) ⌝ }
     ensures { λ r. ⌜ (r ≡ mask (now (rule .entry)) f) × (r < 65536) ⌝ }
 {
     header::two_bytes(rule, 2 * f)

@@ -14,41 +14,64 @@ use Rattle.policy.proofs.Rows.{stops, goes-on}
 use Rattle.policy.proofs.file_refusal.Statement.{statement}
 use Rattle.policy.proofs.file_refusal.Tie as tie
 
-ranges-pass : (c : tie.Else4) → rangesHold (c .before .before .before .before .before .before .before .before .args .policy .now) ≡ true
+ranges-pass : (c : tie.Else4)
+    → let start = c .before .before .before .before .before .before .before .before in
+    rangesHold (start .args .policy .now) ≡ true
 ranges-pass c = sym (c .before .ranges-hold .ensures) ∙ not-false (c .before .ranges-hold .result) (c .if4 .left)
 
-length-passes : (c : tie.Else5) → eqb (length (c .before .before .before .before .before .before .before .before .before .before .args .policy .now)) (exactLength (c .before .before .before .before .before .before .before .before .before .before .args .policy .now)) ≡ true
+length-passes : (c : tie.Else5)
+    → let start = c .before .before .before .before .before .before .before .before .before .before in
+    eqb (length (start .args .policy .now)) (exactLength (start .args .policy .now)) ≡ true
 length-passes c = sym (c .before .length-holds .ensures) ∙ not-false (c .before .length-holds .result) (c .if5 .left)
 
-after2 : (c : tie.Else1) (r : ℕ) → r ≡ row3 (c .before .before .args .policy .now) → r ≡ fileRefusal (c .before .before .args .policy .now)
+after2 : (c : tie.Else1) (r : ℕ)
+    → let start = c .before .before in
+    r ≡ row3 (start .args .policy .now) → r ≡ fileRefusal (start .args .policy .now)
 unfolding fileRefusal
-after2 c r e = goes-on 2 (leb 9 (length (c .before .before .args .policy .now))) (row3 (c .before .before .args .policy .now)) r (le-leb 9 (length (c .before .before .args .policy .now)) (c .if1 .left)) e
+after2 c r e =
+    let start = c .before .before in
+    goes-on 2 (leb 9 (length (start .args .policy .now))) (row3 (start .args .policy .now)) r (le-leb 9 (length (start .args .policy .now)) (c .if1 .left)) e
 
-after3 : (c : tie.Else2) (r : ℕ) → r ≡ row4 (c .before .before .before .before .args .policy .now) → r ≡ fileRefusal (c .before .before .before .before .args .policy .now)
+after3 : (c : tie.Else2) (r : ℕ)
+    → let start = c .before .before .before .before in
+    r ≡ row4 (start .args .policy .now) → r ≡ fileRefusal (start .args .policy .now)
 unfolding row3
 after3 c r e =
+    let start = c .before .before .before .before in
     after2 (c .before .before) r
-    (goes-on 3 (hasMark 0x50 0x4F 0x4C (c .before .before .before .before .args .policy .now)) (row4 (c .before .before .before .before .args .policy .now)) r (sym (c .before .mark-holds .ensures) ∙ not-false (c .before .mark-holds .result) (c .if2 .left)) e)
+    (goes-on 3 (hasMark 0x50 0x4F 0x4C (start .args .policy .now)) (row4 (start .args .policy .now)) r (sym (c .before .mark-holds .ensures) ∙ not-false (c .before .mark-holds .result) (c .if2 .left)) e)
 
-after4 : (c : tie.Else3) (r : ℕ) → r ≡ row5 (c .before .before .before .before .before .before .args .policy .now) → r ≡ fileRefusal (c .before .before .before .before .before .before .args .policy .now)
+after4 : (c : tie.Else3) (r : ℕ)
+    → let start = c .before .before .before .before .before .before in
+    r ≡ row5 (start .args .policy .now) → r ≡ fileRefusal (start .args .policy .now)
 unfolding row4
 after4 c r e =
+    let start = c .before .before .before .before .before .before in
     after3 (c .before .before) r
-    (goes-on 4 (hasVersion1 (c .before .before .before .before .before .before .args .policy .now)) (row5 (c .before .before .before .before .before .before .args .policy .now)) r (sym (c .before .version-holds .ensures) ∙ not-false (c .before .version-holds .result) (c .if3 .left)) e)
+    (goes-on 4 (hasVersion1 (start .args .policy .now)) (row5 (start .args .policy .now)) r (sym (c .before .version-holds .ensures) ∙ not-false (c .before .version-holds .result) (c .if3 .left)) e)
 
-after5 : (c : tie.Else4) (r : ℕ) → r ≡ row6 (c .before .before .before .before .before .before .before .before .args .policy .now) → r ≡ fileRefusal (c .before .before .before .before .before .before .before .before .args .policy .now)
+after5 : (c : tie.Else4) (r : ℕ)
+    → let start = c .before .before .before .before .before .before .before .before in
+    r ≡ row6 (start .args .policy .now) → r ≡ fileRefusal (start .args .policy .now)
 unfolding row5
-after5 c r e = after4 (c .before .before) r (goes-on 5 (rangesHold (c .before .before .before .before .before .before .before .before .args .policy .now)) (row6 (c .before .before .before .before .before .before .before .before .args .policy .now)) r (ranges-pass c) e)
+after5 c r e =
+    let start = c .before .before .before .before .before .before .before .before in
+    after4 (c .before .before) r (goes-on 5 (rangesHold (start .args .policy .now)) (row6 (start .args .policy .now)) r (ranges-pass c) e)
 
-after6 : (c : tie.Else5) (r : ℕ) → r ≡ row7 (c .before .before .before .before .before .before .before .before .before .before .args .policy .now) → r ≡ fileRefusal (c .before .before .before .before .before .before .before .before .before .before .args .policy .now)
+after6 : (c : tie.Else5) (r : ℕ)
+    → let start = c .before .before .before .before .before .before .before .before .before .before in
+    r ≡ row7 (start .args .policy .now) → r ≡ fileRefusal (start .args .policy .now)
 unfolding row6
 after6 c r e =
+    let start = c .before .before .before .before .before .before .before .before .before .before in
     after5 (c .before .before) r
-    (goes-on 6 (eqb (length (c .before .before .before .before .before .before .before .before .before .before .args .policy .now)) (exactLength (c .before .before .before .before .before .before .before .before .before .before .args .policy .now))) (row7 (c .before .before .before .before .before .before .before .before .before .before .args .policy .now)) r (length-passes c) e)
+    (goes-on 6 (eqb (length (start .args .policy .now)) (exactLength (start .args .policy .now))) (row7 (start .args .policy .now)) r (length-passes c) e)
 
 returns : tie.Need-returns
 unfolding fileRefusal
-returns c = stops 2 (leb 9 (length (c .before .before .args .policy .now))) (row3 (c .before .before .args .policy .now)) (lt-leb 9 (length (c .before .before .args .policy .now)) (c .if1 .taken))
+returns c =
+    let start = c .before .before in
+    stops 2 (leb 9 (length (start .args .policy .now))) (row3 (start .args .policy .now)) (lt-leb 9 (length (start .args .policy .now)) (c .if1 .taken))
 
 mark-holds-requires : tie.Need-mark-holds-requires
 mark-holds-requires c κs = search needs
@@ -56,8 +79,9 @@ mark-holds-requires c κs = search needs
 returns-2 : tie.Need-returns-2
 unfolding row3
 returns-2 c =
+    let start = c .before .before .before .before in
     after2 (c .before .before) 3
-    (stops 3 (hasMark 0x50 0x4F 0x4C (c .before .before .before .before .args .policy .now)) (row4 (c .before .before .before .before .args .policy .now)) (sym (c .before .mark-holds .ensures) ∙ not-true (c .before .mark-holds .result) (c .if2 .taken)))
+    (stops 3 (hasMark 0x50 0x4F 0x4C (start .args .policy .now)) (row4 (start .args .policy .now)) (sym (c .before .mark-holds .ensures) ∙ not-true (c .before .mark-holds .result) (c .if2 .taken)))
 
 version-holds-requires : tie.Need-version-holds-requires
 version-holds-requires c κs = search needs
@@ -65,8 +89,9 @@ version-holds-requires c κs = search needs
 returns-3 : tie.Need-returns-3
 unfolding row4
 returns-3 c =
+    let start = c .before .before .before .before .before .before in
     after3 (c .before .before) 4
-    (stops 4 (hasVersion1 (c .before .before .before .before .before .before .args .policy .now)) (row5 (c .before .before .before .before .before .before .args .policy .now)) (sym (c .before .version-holds .ensures) ∙ not-true (c .before .version-holds .result) (c .if3 .taken)))
+    (stops 4 (hasVersion1 (start .args .policy .now)) (row5 (start .args .policy .now)) (sym (c .before .version-holds .ensures) ∙ not-true (c .before .version-holds .result) (c .if3 .taken)))
 
 ranges-hold-requires : tie.Need-ranges-hold-requires
 ranges-hold-requires c κs = search needs
@@ -74,8 +99,9 @@ ranges-hold-requires c κs = search needs
 returns-4 : tie.Need-returns-4
 unfolding row5
 returns-4 c =
+    let start = c .before .before .before .before .before .before .before .before in
     after4 (c .before .before) 5
-    (stops 5 (rangesHold (c .before .before .before .before .before .before .before .before .args .policy .now)) (row6 (c .before .before .before .before .before .before .before .before .args .policy .now)) (sym (c .before .ranges-hold .ensures) ∙ not-true (c .before .ranges-hold .result) (c .if4 .taken)))
+    (stops 5 (rangesHold (start .args .policy .now)) (row6 (start .args .policy .now)) (sym (c .before .ranges-hold .ensures) ∙ not-true (c .before .ranges-hold .result) (c .if4 .taken)))
 
 length-holds-requires : tie.Need-length-holds-requires
 length-holds-requires c κs = search needs
@@ -83,12 +109,15 @@ length-holds-requires c κs = search needs
 returns-5 : tie.Need-returns-5
 unfolding row6
 returns-5 c =
+    let start = c .before .before .before .before .before .before .before .before .before .before in
     after5 (c .before .before) 6
-    (stops 6 (eqb (length (c .before .before .before .before .before .before .before .before .before .before .args .policy .now)) (exactLength (c .before .before .before .before .before .before .before .before .before .before .args .policy .now))) (row7 (c .before .before .before .before .before .before .before .before .before .before .args .policy .now))
+    (stops 6 (eqb (length (start .args .policy .now)) (exactLength (start .args .policy .now))) (row7 (start .args .policy .now))
     (sym (c .before .length-holds .ensures) ∙ not-true (c .before .length-holds .result) (c .if5 .taken)))
 
 contents-refusal-requires : tie.Need-contents-refusal-requires
-contents-refusal-requires c κs = sized (c .before .before .before .before .before .before .before .before .before .before .args .policy .now) (ranges-pass (c .before .before)) (length-passes c)
+contents-refusal-requires c κs =
+    let start = c .before .before .before .before .before .before .before .before .before .before in
+    sized (start .args .policy .now) (ranges-pass (c .before .before)) (length-passes c)
 
 returns-6 : tie.Need-returns-6
 returns-6 c = after6 (c .before) (c .contents-refusal .result) (c .contents-refusal .ensures)

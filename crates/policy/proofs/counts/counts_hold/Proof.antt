@@ -15,7 +15,9 @@ requests-requires : tie.Need-requests-requires
 requests-requires c κs = search needs
 
 returns-2 : tie.Need-returns-2
-returns-2 c = rw (sym (c .before .before .counts-in-range .ensures) ∙ not-false (c .before .before .counts-in-range .result) (c .before .if1 .left), c .requests .ensures)
+returns-2 c =
+    let counts-in-range = c .before .before .counts-in-range in
+    rw (sym (counts-in-range .ensures) ∙ not-false (counts-in-range .result) (c .before .if1 .left), c .requests .ensures)
 
 pub counts-hold-spec : {M : Type 1} → statement M
 counts-hold-spec =

@@ -6,10 +6,10 @@ use native.Mathlib.Omega.{arith}
 use borrow.Author.Tests.{not-true, not-false}
 use borrow.Author.Needs.{needs}
 use Rattle.automaton.specs.Below.{allBelow}
+use Rattle.automaton.proofs.Loops.{all-more, all-fails, all-done}
 use Rattle.definitions.specs.Bytes.{within}
 use Rattle.definitions.specs.Policy.{fields}
 use Rattle.definitions.specs.Refusal.{countInRange}
-use Rattle.policy.proofs.Below.{all-more, all-fails, all-done}
 use Rattle.policy.proofs.counts.counts_in_range.Statement.{statement}
 use Rattle.policy.proofs.counts.counts_in_range.Tie as tie
 
@@ -19,7 +19,10 @@ Inv-loop policy n f₀ f = (f ≤ n) × (allBelow f (countInRange policy) ≡ tr
 abbrev μ-loop : tie.MeasureT-loop
 μ-loop policy n f₀ f = n - f
 
-judged : (c : tie.After-in-range Inv-loop μ-loop) → c .in-range .result ≡ countInRange (c .before .before .before .before .before .before .args .policy .now) (c .before .before .before .loop .f)
+judged : (c : tie.After-in-range Inv-loop μ-loop)
+    → let start = c .before .before .before .before .before .before in
+    let loop = c .before .before .before .loop in
+    c .in-range .result ≡ countInRange (start .args .policy .now) (loop .f)
 judged c = c .in-range .ensures ∙ ap (λ (x : ℕ). within 1 x 16) (c .before .count .ensures .0)
 
 fields-requires : tie.Need-fields-requires Inv-loop μ-loop
@@ -36,7 +39,9 @@ in-range-requires c κs = search needs
 
 returns : tie.Need-returns Inv-loop μ-loop
 returns c =
-    all-fails (countInRange (c .before .before .before .before .before .before .before .args .policy .now)) (fields (c .before .before .before .before .before .before .before .args .policy .now)) (c .before .before .before .before .loop .f) (omega arith)
+    let start = c .before .before .before .before .before .before .before in
+    let loop = c .before .before .before .before .loop in
+    all-fails (countInRange (start .args .policy .now)) (fields (start .args .policy .now)) (loop .f) (omega arith)
     (sym (judged (c .before)) ∙ not-true (c .before .in-range .result) (c .if1 .taken))
 
 add-f : tie.Need-add-f Inv-loop μ-loop
@@ -46,15 +51,18 @@ loop-less : tie.Need-loop-less Inv-loop μ-loop
 loop-less c = search needs
 
 loop-again : tie.Need-loop-again Inv-loop μ-loop
-loop-again c = (
-  omega arith,
-  all-more (countInRange (c .before .before .before .before .before .before .before .args .policy .now)) (c .before .before .before .before .loop .f) (c .before .before .before .before .loop .inv .1)
-      (sym (judged (c .before)) ∙ not-false (c .before .in-range .result) (c .if1 .left)),
-)
+loop-again c =
+    let start = c .before .before .before .before .before .before .before in
+    let loop = c .before .before .before .before .loop in (
+      omega arith,
+      all-more (countInRange (start .args .policy .now)) (loop .f) (loop .inv .1)
+          (sym (judged (c .before)) ∙ not-false (c .before .in-range .result) (c .if1 .left)),
+    )
 
 returns-2 : tie.Need-returns-2 Inv-loop μ-loop
 returns-2 c =
-    all-done (countInRange (c .before .before .before .before .args .policy .now)) (fields (c .before .before .before .before .args .policy .now)) (c .before .loop .f) (omega arith) (c .before .loop .inv .1)
+    let start = c .before .before .before .before in
+    all-done (countInRange (start .args .policy .now)) (fields (start .args .policy .now)) (c .before .loop .f) (omega arith) (c .before .loop .inv .1)
 
 pub counts-in-range-spec : {M : Type 1} → statement M
 counts-in-range-spec =

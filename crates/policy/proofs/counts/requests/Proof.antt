@@ -24,7 +24,9 @@ count-requires : tie.Need-count-requires Inv-loop μ-loop
 count-requires c κs = search needs
 
 mul-product : tie.Need-mul-product Inv-loop μ-loop
-mul-product c = record { fits = next-fits (c .before .before .loop .f) (c .before .before .loop .product) (c .count .result) (c .before .before .loop .inv .1 .1) (omega arith) (omega arith) }
+mul-product c =
+    let loop = c .before .before .loop in
+    record { fits = next-fits (loop .f) (loop .product) (c .count .result) (loop .inv .1 .1) (omega arith) (omega arith) }
 
 add-f : tie.Need-add-f Inv-loop μ-loop
 add-f c = search needs
@@ -33,14 +35,17 @@ loop-less : tie.Need-loop-less Inv-loop μ-loop
 loop-less c = search needs
 
 loop-again : tie.Need-loop-again Inv-loop μ-loop
-loop-again c = (
-  omega arith,
-  multiplied-more (count (c .before .before .before .before .before .args .policy .now)) (c .before .before .loop .f) (c .before .before .loop .product) (c .count .result) (c .before .before .loop .inv .1) (c .count .ensures .0) (omega arith),
-)
+loop-again c =
+    let start = c .before .before .before .before .before in
+    let loop = c .before .before .loop in (
+      omega arith,
+      multiplied-more (count (start .args .policy .now)) (loop .f) (loop .product) (c .count .result) (loop .inv .1) (c .count .ensures .0) (omega arith),
+    )
 
 returns : tie.Need-returns Inv-loop μ-loop
 returns c =
-    let e : c .before .loop .f ≡ fields (c .before .before .before .before .args .policy .now) = omega arith in
+    let start = c .before .before .before .before in
+    let e : c .before .loop .f ≡ fields (start .args .policy .now) = omega arith in
     rw (← e) (c .before .loop .inv .1 .0)
 
 pub requests-spec : {M : Type 1} → statement M

@@ -43,7 +43,10 @@ add-result-3 : tie.Need-add-result-3
 add-result-3 c = omega (arith, rules-fit (c .before .before .before), changes-fit (c .before))
 
 returns : tie.Need-returns
-returns c = rw (c .fields .ensures .0, c .before .before .before .before .rules .ensures .0, c .before .before .before .rule-size .ensures .0, c .before .before .events .ensures .0, c .before .variables .ensures .0)
+returns c =
+    let rules = c .before .before .before .before .rules in
+    let rule-size = c .before .before .before .rule-size in
+    rw (c .fields .ensures .0, rules .ensures .0, rule-size .ensures .0, c .before .before .events .ensures .0, c .before .variables .ensures .0)
 
 pub length-holds-spec : {M : Type 1} → statement M
 length-holds-spec =

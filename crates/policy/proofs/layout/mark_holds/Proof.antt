@@ -20,7 +20,9 @@ shared-slice-read-result : tie.Need-shared-slice-read-result
 shared-slice-read-result c = search needs
 
 returns-3 : tie.Need-returns-3
-returns-3 c = rw (eq-eqb _ _ (c .before .before .before .if1 .left), eq-eqb _ _ (c .before .if2 .left))
+returns-3 c =
+    let if1 = c .before .before .before .if1 in
+    rw (eq-eqb _ _ (if1 .left), eq-eqb _ _ (c .before .if2 .left))
 
 pub mark-holds-spec : {M : Type 1} → statement M
 mark-holds-spec =

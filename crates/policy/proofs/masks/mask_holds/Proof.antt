@@ -5,20 +5,24 @@ use lib.Dec.{leb}
 use borrow.Author.Tests.{le-leb, lt-leb}
 use borrow.Author.Needs.{needs}
 use Rattle.definitions.specs.Policy.{mask}
-use Rattle.policy.proofs.Below.{and-last}
+use Rattle.policy.proofs.Rows.{and-last}
 use Rattle.policy.proofs.Bits.{one-shifted}
 use Rattle.policy.proofs.Checked.{count-in-range}
 use Rattle.policy.proofs.masks.mask_holds.Statement.{statement}
 use Rattle.policy.proofs.masks.mask_holds.Tie as tie
 
 narrow : (c : tie.After-count) → c .count .result < 64
-narrow c = omega (arith, count-in-range (c .before .before .before .before .before .args .policy .now) (c .before .before .before .before .before .pre .1) (c .before .before .before .before .before .args .f) (c .before .before .before .before .before .pre .2))
+narrow c =
+    let start = c .before .before .before .before .before in
+    omega (arith, count-in-range (start .args .policy .now) (start .pre .1) (start .args .f) (start .pre .2))
 
 mask-requires : tie.Need-mask-requires
 mask-requires c κs = search needs
 
 returns : tie.Need-returns
-returns c = rw (lt-leb 1 (mask (c .before .before .before .before .args .rule .now) (c .before .before .before .before .args .f)) (omega arith))
+returns c =
+    let start = c .before .before .before .before in
+    rw (lt-leb 1 (mask (start .args .rule .now) (start .args .f)) (omega arith))
 
 count-requires : tie.Need-count-requires
 count-requires c κs = search needs
@@ -28,7 +32,8 @@ shl-result c = narrow c
 
 returns-2 : tie.Need-returns-2
 returns-2 c =
-    and-last (leb 1 (mask (c .before .before .before .before .before .args .rule .now) (c .before .before .before .before .before .args .f))) _ _ (le-leb 1 (mask (c .before .before .before .before .before .args .rule .now) (c .before .before .before .before .before .args .f)) (omega arith))
+    let start = c .before .before .before .before .before in
+    and-last (leb 1 (mask (start .args .rule .now) (start .args .f))) _ _ (le-leb 1 (mask (start .args .rule .now) (start .args .f)) (omega arith))
     (rw (one-shifted (c .count .result) (narrow c), c .before .before .mask .ensures .0, c .count .ensures .0))
 
 pub mask-holds-spec : {M : Type 1} → statement M

@@ -7,10 +7,10 @@ use lib.ListN.{length}
 use borrow.Author.Tests.{not-true, not-false}
 use borrow.Author.Needs.{needs}
 use Rattle.automaton.specs.Below.{allBelow}
+use Rattle.automaton.proofs.Loops.{all-more, all-fails, all-done}
 use Rattle.definitions.specs.Policy.{rules}
 use Rattle.definitions.specs.Refusal.{ruleMasksHold}
 use Rattle.policy.specs.Record.{partMasksHold}
-use Rattle.policy.proofs.Below.{all-more, all-fails, all-done}
 use Rattle.policy.proofs.Parts.{lent-within, lent-rule, lent-is}
 use Rattle.policy.proofs.masks.masks_hold.Statement.{statement}
 use Rattle.policy.proofs.masks.masks_hold.Tie as tie
@@ -21,11 +21,24 @@ Inv-loop policy table size n k₀ k = (k ≤ n) × (allBelow k (ruleMasksHold po
 abbrev μ-loop : tie.MeasureT-loop
 μ-loop policy table size n k₀ k = n - k
 
-within : (c : tie.In-loop Inv-loop μ-loop) → c .before .loop .k * c .before .before .before .rule-size .result + c .before .before .before .rule-size .result ≤ length (c .before .before .before .before .before .before .args .table .now)
-within c = lent-within (c .before .before .before .before .before .before .args .policy .now) (c .before .before .before .before .before .before .args .table .now) (c .before .before .before .rule-size .result) (c .before .loop .k) (c .before .before .before .before .before .before .pre .0) (c .before .before .before .rule-size .ensures .0) (omega arith)
+within : (c : tie.In-loop Inv-loop μ-loop)
+    → let start = c .before .before .before .before .before .before in
+    let rule-size = c .before .before .before .rule-size in
+    c .before .loop .k * rule-size .result + rule-size .result ≤ length (start .args .table .now)
+within c =
+    let start = c .before .before .before .before .before .before in
+    let rule-size = c .before .before .before .rule-size in
+    lent-within (start .args .policy .now) (start .args .table .now) (rule-size .result) (c .before .loop .k) (start .pre .0) (rule-size .ensures .0) (omega arith)
 
-judged : (c : tie.After-rule-masks-hold Inv-loop μ-loop) → c .rule-masks-hold .result ≡ ruleMasksHold (c .before .before .before .before .before .before .before .before .args .policy .now) (c .before .before .before .loop .k)
-judged c = c .rule-masks-hold .ensures ∙ ap (partMasksHold (c .before .before .before .before .before .before .before .before .args .policy .now)) (lent-is (c .before .before .before .before .before .before .before .before .args .policy .now) (c .before .before .before .before .before .before .before .before .args .table .now) (c .before .before .before .before .before .rule-size .result) (c .before .before .before .loop .k) (c .before .before .before .before .before .before .before .before .pre .0) (c .before .before .before .before .before .rule-size .ensures .0) (omega arith))
+judged : (c : tie.After-rule-masks-hold Inv-loop μ-loop)
+    → let start = c .before .before .before .before .before .before .before .before in
+    let loop = c .before .before .before .loop in
+    c .rule-masks-hold .result ≡ ruleMasksHold (start .args .policy .now) (loop .k)
+judged c =
+    let start = c .before .before .before .before .before .before .before .before in
+    let rule-size = c .before .before .before .before .before .rule-size in
+    let loop = c .before .before .before .loop in
+    c .rule-masks-hold .ensures ∙ ap (partMasksHold (start .args .policy .now)) (lent-is (start .args .policy .now) (start .args .table .now) (rule-size .result) (loop .k) (start .pre .0) (rule-size .ensures .0) (omega arith))
 
 rule-size-requires : tie.Need-rule-size-requires Inv-loop μ-loop
 rule-size-requires c κs = search needs
@@ -49,15 +62,19 @@ part-rule-masks-hold-end : tie.Need-part-rule-masks-hold-end Inv-loop μ-loop
 part-rule-masks-hold-end c = search needs
 
 rule-masks-hold-requires : tie.Need-rule-masks-hold-requires Inv-loop μ-loop
-rule-masks-hold-requires c κs = (
-  lent-rule (c .before .before .before .before .before .before .before .args .policy .now) (c .before .before .before .before .before .before .before .args .table .now) (c .before .before .before .before .rule-size .result) (c .before .before .loop .k) (c .before .before .before .before .before .before .before .pre .0) (c .before .before .before .before .rule-size .ensures .0) (omega arith),
-  c .before .before .before .before .before .before .before .pre .1,
-)
+rule-masks-hold-requires c κs =
+    let start = c .before .before .before .before .before .before .before in
+    let rule-size = c .before .before .before .before .rule-size in (
+      lent-rule (start .args .policy .now) (start .args .table .now) (rule-size .result) (c .before .before .loop .k) (start .pre .0) (rule-size .ensures .0) (omega arith),
+      start .pre .1,
+    )
 
 returns : tie.Need-returns Inv-loop μ-loop
 returns c =
-    let p = c .before .before .before .before .before .before .before .before .before .args .policy .now in
-    all-fails (ruleMasksHold p) (rules p) (c .before .before .before .before .loop .k) (omega arith) (sym (judged (c .before)) ∙ not-true (c .before .rule-masks-hold .result) (c .if1 .taken))
+    let start = c .before .before .before .before .before .before .before .before .before in
+    let loop = c .before .before .before .before .loop in
+    let p = start .args .policy .now in
+    all-fails (ruleMasksHold p) (rules p) (loop .k) (omega arith) (sym (judged (c .before)) ∙ not-true (c .before .rule-masks-hold .result) (c .if1 .taken))
 
 add-k : tie.Need-add-k Inv-loop μ-loop
 add-k c = search needs
@@ -66,15 +83,18 @@ loop-less : tie.Need-loop-less Inv-loop μ-loop
 loop-less c = search needs
 
 loop-again : tie.Need-loop-again Inv-loop μ-loop
-loop-again c = (
-  omega arith,
-  all-more (ruleMasksHold (c .before .before .before .before .before .before .before .before .before .args .policy .now)) (c .before .before .before .before .loop .k) (c .before .before .before .before .loop .inv .1)
-      (sym (judged (c .before)) ∙ not-false (c .before .rule-masks-hold .result) (c .if1 .left)),
-)
+loop-again c =
+    let start = c .before .before .before .before .before .before .before .before .before in
+    let loop = c .before .before .before .before .loop in (
+      omega arith,
+      all-more (ruleMasksHold (start .args .policy .now)) (loop .k) (loop .inv .1)
+          (sym (judged (c .before)) ∙ not-false (c .before .rule-masks-hold .result) (c .if1 .left)),
+    )
 
 returns-2 : tie.Need-returns-2 Inv-loop μ-loop
 returns-2 c =
-    let p = c .before .before .before .before .before .before .args .policy .now in
+    let start = c .before .before .before .before .before .before in
+    let p = start .args .policy .now in
     all-done (ruleMasksHold p) (rules p) (c .before .loop .k) (omega arith) (c .before .loop .inv .1)
 
 pub masks-hold-spec : {M : Type 1} → statement M

@@ -6,9 +6,9 @@ use native.Mathlib.Omega.{arith}
 use borrow.Author.Tests.{not-true, not-false}
 use borrow.Author.Needs.{needs}
 use Rattle.automaton.specs.Below.{allBelow}
+use Rattle.automaton.proofs.Loops.{all-more, all-fails, all-done}
 use Rattle.definitions.specs.Policy.{fields}
 use Rattle.policy.specs.Record.{partMaskHolds}
-use Rattle.policy.proofs.Below.{all-more, all-fails, all-done}
 use Rattle.policy.proofs.masks.rule_masks_hold.Statement.{statement}
 use Rattle.policy.proofs.masks.rule_masks_hold.Tie as tie
 
@@ -29,8 +29,10 @@ mask-holds-requires c κs = search needs
 
 returns : tie.Need-returns Inv-loop μ-loop
 returns c =
-    let p = c .before .before .before .before .before .before .before .args .policy .now in
-    all-fails (partMaskHolds p (c .before .before .before .before .before .before .before .args .rule .now)) (fields p) (c .before .before .before .loop .f) (omega arith)
+    let start = c .before .before .before .before .before .before .before in
+    let loop = c .before .before .before .loop in
+    let p = start .args .policy .now in
+    all-fails (partMaskHolds p (start .args .rule .now)) (fields p) (loop .f) (omega arith)
     (sym (c .before .mask-holds .ensures) ∙ not-true (c .before .mask-holds .result) (c .if1 .taken))
 
 add-f : tie.Need-add-f Inv-loop μ-loop
@@ -40,16 +42,19 @@ loop-less : tie.Need-loop-less Inv-loop μ-loop
 loop-less c = search needs
 
 loop-again : tie.Need-loop-again Inv-loop μ-loop
-loop-again c = (
-  omega arith,
-  all-more (partMaskHolds (c .before .before .before .before .before .before .before .args .policy .now) (c .before .before .before .before .before .before .before .args .rule .now)) (c .before .before .before .loop .f) (c .before .before .before .loop .inv .1)
-      (sym (c .before .mask-holds .ensures) ∙ not-false (c .before .mask-holds .result) (c .if1 .left)),
-)
+loop-again c =
+    let start = c .before .before .before .before .before .before .before in
+    let loop = c .before .before .before .loop in (
+      omega arith,
+      all-more (partMaskHolds (start .args .policy .now) (start .args .rule .now)) (loop .f) (loop .inv .1)
+          (sym (c .before .mask-holds .ensures) ∙ not-false (c .before .mask-holds .result) (c .if1 .left)),
+    )
 
 returns-2 : tie.Need-returns-2 Inv-loop μ-loop
 returns-2 c =
-    let p = c .before .before .before .before .before .args .policy .now in
-    all-done (partMaskHolds p (c .before .before .before .before .before .args .rule .now)) (fields p) (c .before .loop .f) (omega arith) (c .before .loop .inv .1)
+    let start = c .before .before .before .before .before in
+    let p = start .args .policy .now in
+    all-done (partMaskHolds p (start .args .rule .now)) (fields p) (c .before .loop .f) (omega arith) (c .before .loop .inv .1)
 
 pub rule-masks-hold-spec : {M : Type 1} → statement M
 rule-masks-hold-spec =

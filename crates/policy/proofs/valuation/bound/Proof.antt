@@ -5,9 +5,9 @@ use native.Mathlib.Omega.{arith}
 use lib.ListN.{length}
 use borrow.Author.Needs.{needs}
 use Rattle.automaton.specs.Below.{foldBelow}
+use Rattle.automaton.proofs.Loops.{fold-more}
 use Rattle.definitions.specs.Policy.{rules}
 use Rattle.definitions.specs.Valuation.{tested, greatestTested}
-use Rattle.policy.proofs.Below.{fold-more}
 use Rattle.policy.proofs.Parts.{lent-within, lent-rule, lent-is}
 use Rattle.policy.proofs.valuation.bound.Statement.{statement}
 use Rattle.policy.proofs.valuation.bound.Tie as tie
@@ -18,8 +18,15 @@ Inv-loop policy table j size n most₀ k₀ most k = (k ≤ n) × (most ≡ fold
 abbrev μ-loop : tie.MeasureT-loop
 μ-loop policy table j size n most₀ k₀ most k = n - k
 
-within : (c : tie.In-loop Inv-loop μ-loop) → c .before .loop .k * c .before .before .before .rule-size .result + c .before .before .before .rule-size .result ≤ length (c .before .before .before .before .before .before .args .table .now)
-within c = lent-within (c .before .before .before .before .before .before .args .policy .now) (c .before .before .before .before .before .before .args .table .now) (c .before .before .before .rule-size .result) (c .before .loop .k) (c .before .before .before .before .before .before .pre .0) (c .before .before .before .rule-size .ensures .0) (omega arith)
+within : (c : tie.In-loop Inv-loop μ-loop)
+    → let start = c .before .before .before .before .before .before in
+    let rule-size = c .before .before .before .rule-size in
+    let a = start .args in let size = rule-size .result in c .before .loop .k * size + size ≤ length (a .table .now)
+within c =
+    let start = c .before .before .before .before .before .before in
+    let rule-size = c .before .before .before .rule-size in
+    let a = start .args in
+    lent-within (a .policy .now) (a .table .now) (rule-size .result) (c .before .loop .k) (start .pre .0) (rule-size .ensures .0) (omega arith)
 
 rule-size-requires : tie.Need-rule-size-requires Inv-loop μ-loop
 rule-size-requires c κs = search needs
@@ -43,10 +50,12 @@ part-tested-end : tie.Need-part-tested-end Inv-loop μ-loop
 part-tested-end c = search needs
 
 tested-requires : tie.Need-tested-requires Inv-loop μ-loop
-tested-requires c κs = (
-  lent-rule (c .before .before .before .before .before .before .before .args .policy .now) (c .before .before .before .before .before .before .before .args .table .now) (c .before .before .before .before .rule-size .result) (c .before .before .loop .k) (c .before .before .before .before .before .before .before .pre .0) (c .before .before .before .before .rule-size .ensures .0) (omega arith),
-  c .before .before .before .before .before .before .before .pre .1,
-)
+tested-requires c κs =
+    let start = c .before .before .before .before .before .before .before in
+    let rule-size = c .before .before .before .before .rule-size in (
+      lent-rule (start .args .policy .now) (start .args .table .now) (rule-size .result) (c .before .before .loop .k) (start .pre .0) (rule-size .ensures .0) (omega arith),
+      start .pre .1,
+    )
 
 greater-requires : tie.Need-greater-requires Inv-loop μ-loop
 greater-requires c κs = search needs
@@ -59,18 +68,22 @@ loop-less c = search needs
 
 loop-again : tie.Need-loop-again Inv-loop μ-loop
 loop-again c =
-    let p = c .before .before .before .before .before .before .before .before .before .args .policy .now in
-    let j = c .before .before .before .before .before .before .before .before .before .args .j in
-    let k = c .before .before .before .before .loop .k in
-    let e = lent-is p (c .before .before .before .before .before .before .before .before .before .args .table .now) (c .before .before .before .before .before .before .rule-size .result) k (c .before .before .before .before .before .before .before .before .before .pre .0) (c .before .before .before .before .before .before .rule-size .ensures .0) (omega arith) in (
+    let start = c .before .before .before .before .before .before .before .before .before in
+    let rule-size = c .before .before .before .before .before .before .rule-size in
+    let loop = c .before .before .before .before .loop in
+    let p = start .args .policy .now in
+    let j = start .args .j in
+    let k = loop .k in
+    let e = lent-is p (start .args .table .now) (rule-size .result) k (start .pre .0) (rule-size .ensures .0) (omega arith) in (
       omega arith,
-      rw (fold-more (greatestTested p j) 0 k, ← (c .before .before .before .before .loop .inv .1), ← e, ← (c .before .tested .ensures .0)) (c .greater .ensures),
+      rw (fold-more (greatestTested p j) 0 k, ← (loop .inv .1), ← e, ← (c .before .tested .ensures .0)) (c .greater .ensures),
       omega arith,
     )
 
 returns : tie.Need-returns Inv-loop μ-loop
 returns c =
-    let e : c .before .loop .k ≡ rules (c .before .before .before .before .before .before .args .policy .now) = omega arith in
+    let start = c .before .before .before .before .before .before in
+    let e : c .before .loop .k ≡ rules (start .args .policy .now) = omega arith in
     (rw (← e) (c .before .loop .inv .1), c .before .loop .inv .2)
 
 pub bound-spec : {M : Type 1} → statement M

@@ -24,7 +24,9 @@ add-product : tie.Need-add-product Inv-loop μ-loop
 add-product c = search needs
 
 mul-product : tie.Need-mul-product Inv-loop μ-loop
-mul-product c = record { fits = next-fits (c .before .before .loop .j) (c .before .before .loop .product) (c .bound .result + 1) (c .before .before .loop .inv .1 .1) (omega arith) (omega arith) }
+mul-product c =
+    let loop = c .before .before .loop in
+    record { fits = next-fits (loop .j) (loop .product) (c .bound .result + 1) (loop .inv .1 .1) (omega arith) (omega arith) }
 
 add-j : tie.Need-add-j Inv-loop μ-loop
 add-j c = search needs
@@ -33,14 +35,17 @@ loop-less : tie.Need-loop-less Inv-loop μ-loop
 loop-less c = search needs
 
 loop-again : tie.Need-loop-again Inv-loop μ-loop
-loop-again c = (
-  omega arith,
-  multiplied-more (valuesOf (c .before .before .before .before .before .args .policy .now)) (c .before .before .loop .j) (c .before .before .loop .product) (c .bound .result + 1) (c .before .before .loop .inv .1) (omega arith) (omega arith),
-)
+loop-again c =
+    let start = c .before .before .before .before .before in
+    let loop = c .before .before .loop in (
+      omega arith,
+      multiplied-more (valuesOf (start .args .policy .now)) (loop .j) (loop .product) (c .bound .result + 1) (loop .inv .1) (omega arith) (omega arith),
+    )
 
 returns : tie.Need-returns Inv-loop μ-loop
 returns c =
-    let e : c .before .loop .j ≡ c .before .before .before .before .args .n = omega arith in
+    let start = c .before .before .before .before in
+    let e : c .before .loop .j ≡ start .args .n = omega arith in
     rw (← e) (c .before .loop .inv .1 .0)
 
 pub worth-spec : {M : Type 1} → statement M

@@ -6,9 +6,9 @@ use native.Mathlib.Omega.{arith}
 use borrow.Author.Tests.{not-true, not-false}
 use borrow.Author.Needs.{needs}
 use Rattle.automaton.specs.Below.{allBelow}
+use Rattle.automaton.proofs.Loops.{all-more, all-fails, all-done}
 use Rattle.definitions.specs.Policy.{events}
 use Rattle.definitions.specs.Refusal.{eventHolds}
-use Rattle.policy.proofs.Below.{all-more, all-fails, all-done}
 use Rattle.policy.proofs.values.events_hold.Statement.{statement}
 use Rattle.policy.proofs.values.events_hold.Tie as tie
 
@@ -29,8 +29,10 @@ event-holds-requires c κs = search needs
 
 returns : tie.Need-returns Inv-loop μ-loop
 returns c =
-    let p = c .before .before .before .before .before .before .before .args .policy .now in
-    all-fails (eventHolds p) (events p) (c .before .before .before .loop .e) (omega arith) (sym (c .before .event-holds .ensures) ∙ not-true (c .before .event-holds .result) (c .if1 .taken))
+    let start = c .before .before .before .before .before .before .before in
+    let loop = c .before .before .before .loop in
+    let p = start .args .policy .now in
+    all-fails (eventHolds p) (events p) (loop .e) (omega arith) (sym (c .before .event-holds .ensures) ∙ not-true (c .before .event-holds .result) (c .if1 .taken))
 
 add-e : tie.Need-add-e Inv-loop μ-loop
 add-e c = search needs
@@ -39,15 +41,18 @@ loop-less : tie.Need-loop-less Inv-loop μ-loop
 loop-less c = search needs
 
 loop-again : tie.Need-loop-again Inv-loop μ-loop
-loop-again c = (
-  omega arith,
-  all-more (eventHolds (c .before .before .before .before .before .before .before .args .policy .now)) (c .before .before .before .loop .e) (c .before .before .before .loop .inv .1)
-      (sym (c .before .event-holds .ensures) ∙ not-false (c .before .event-holds .result) (c .if1 .left)),
-)
+loop-again c =
+    let start = c .before .before .before .before .before .before .before in
+    let loop = c .before .before .before .loop in (
+      omega arith,
+      all-more (eventHolds (start .args .policy .now)) (loop .e) (loop .inv .1)
+          (sym (c .before .event-holds .ensures) ∙ not-false (c .before .event-holds .result) (c .if1 .left)),
+    )
 
 returns-2 : tie.Need-returns-2 Inv-loop μ-loop
 returns-2 c =
-    let p = c .before .before .before .before .before .args .policy .now in
+    let start = c .before .before .before .before .before in
+    let p = start .args .policy .now in
     all-done (eventHolds p) (events p) (c .before .loop .e) (omega arith) (c .before .loop .inv .1)
 
 pub events-hold-spec : {M : Type 1} → statement M

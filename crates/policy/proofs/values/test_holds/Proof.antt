@@ -10,14 +10,17 @@ ge-requires : tie.Need-ge-requires
 ge-requires c κs = search needs
 
 returns : tie.Need-returns
-returns c = rw (lt-leb (ge (c .before .before .before .before .args .policy .now) (c .before .before .before .before .args .rule .now) (c .before .before .before .before .args .j)) 63 (omega arith))
+returns c =
+    let start = c .before .before .before .before in
+    rw (lt-leb (ge (start .args .policy .now) (start .args .rule .now) (start .args .j)) 63 (omega arith))
 
 lt-requires : tie.Need-lt-requires
 lt-requires c κs = search needs
 
 returns-2 : tie.Need-returns-2
 returns-2 c =
-    let a = c .before .before .before .before .before .before .args in
+    let start = c .before .before .before .before .before .before in
+    let a = start .args in
     rw (le-leb (ge (a .policy .now) (a .rule .now) (a .j)) 63 (omega arith), lt-leb (lt (a .policy .now) (a .rule .now) (a .j)) 63 (omega arith))
 
 change-requires : tie.Need-change-requires
@@ -25,7 +28,8 @@ change-requires c κs = search needs
 
 returns-3 : tie.Need-returns-3
 returns-3 c =
-    let a = c .before .before .before .before .before .before .before .args in
+    let start = c .before .before .before .before .before .before .before in
+    let a = start .args in
     rw (le-leb (ge (a .policy .now) (a .rule .now) (a .j)) 63 (omega arith), le-leb (lt (a .policy .now) (a .rule .now) (a .j)) 63 (omega arith), c .change .ensures .0)
 
 pub test-holds-spec : {M : Type 1} → statement M

@@ -9,8 +9,12 @@ use Rattle.policy.proofs.Parts.{changes-within, lent-changes}
 use Rattle.policy.proofs.values.values_hold.Statement.{statement}
 use Rattle.policy.proofs.values.values_hold.Tie as tie
 
-within : (c : tie.After-rule-size) → c .before .rules .result * c .rule-size .result ≤ length (c .before .before .before .before .before .before .args .table .now)
-within c = changes-within (c .before .before .before .before .before .before .args .policy .now) (c .before .before .before .before .before .before .args .table .now) (c .before .rules .result) (c .rule-size .result) (c .before .before .before .before .before .before .pre) (c .before .rules .ensures .0) (c .rule-size .ensures .0)
+within : (c : tie.After-rule-size)
+    → let start = c .before .before .before .before .before .before in
+    c .before .rules .result * c .rule-size .result ≤ length (start .args .table .now)
+within c =
+    let start = c .before .before .before .before .before .before in
+    changes-within (start .args .policy .now) (start .args .table .now) (c .before .rules .result) (c .rule-size .result) (start .pre) (c .before .rules .ensures .0) (c .rule-size .ensures .0)
 
 rules-hold-requires : tie.Need-rules-hold-requires
 rules-hold-requires c κs = search needs
@@ -37,10 +41,16 @@ part-events-hold-end : tie.Need-part-events-hold-end
 part-events-hold-end c = search needs
 
 events-hold-requires : tie.Need-events-hold-requires
-events-hold-requires c κs = lent-changes (c .before .before .before .before .before .before .before .args .policy .now) (c .before .before .before .before .before .before .before .args .table .now) (c .before .before .rules .result) (c .before .rule-size .result) (c .before .before .before .before .before .before .before .pre) (c .before .before .rules .ensures .0) (c .before .rule-size .ensures .0)
+events-hold-requires c κs =
+    let start = c .before .before .before .before .before .before .before in
+    let rules = c .before .before .rules in
+    lent-changes (start .args .policy .now) (start .args .table .now) (rules .result) (c .before .rule-size .result) (start .pre) (rules .ensures .0) (c .before .rule-size .ensures .0)
 
 returns-2 : tie.Need-returns-2
-returns-2 c = rw (sym (c .before .before .before .before .before .rules-hold .ensures) ∙ not-false (c .before .before .before .before .before .rules-hold .result) (c .before .before .before .before .if1 .left)) (c .events-hold .ensures)
+returns-2 c =
+    let rules-hold = c .before .before .before .before .before .rules-hold in
+    let if1 = c .before .before .before .before .if1 in
+    rw (sym (rules-hold .ensures) ∙ not-false (rules-hold .result) (if1 .left)) (c .events-hold .ensures)
 
 pub values-hold-spec : {M : Type 1} → statement M
 values-hold-spec =

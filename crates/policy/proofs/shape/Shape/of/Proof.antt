@@ -44,10 +44,18 @@ part-valuations-end : tie.Need-part-valuations-end
 part-valuations-end c = search needs
 
 valuations-requires : tie.Need-valuations-requires
-valuations-requires c κs = lent-table (c .before .before .before .before .before .before .before .args .policy .now) (c .before .before .before .before .fields .result) (fine (c .before .before .before .before .before .before .before) .sized) (c .before .before .before .before .fields .ensures .0)
+valuations-requires c κs =
+    let start = c .before .before .before .before .before .before .before in
+    let fields = c .before .before .before .before .fields in
+    lent-table (start .args .policy .now) (fields .result) (fine start .sized) (fields .ensures .0)
 
 returns : tie.Need-returns
-returns c = rw (c .valuations .ensures, c .before .before .rules .ensures .0, c .before .before .before .variables .ensures .0, c .before .before .before .before .requests .ensures, c .before .before .before .before .before .fields .ensures .0, c .before .before .before .before .before .before .events .ensures .0)
+returns c =
+    let events = c .before .before .before .before .before .before .events in
+    let fields = c .before .before .before .before .before .fields in
+    let requests = c .before .before .before .before .requests in
+    let variables = c .before .before .before .variables in
+    rw (c .valuations .ensures, c .before .before .rules .ensures .0, variables .ensures .0, requests .ensures, fields .ensures .0, events .ensures .0)
 
 pub of-spec : {M : Type 1} → statement M
 of-spec =

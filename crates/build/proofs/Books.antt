@@ -1,0 +1,88 @@
+-- The rows that are written are those of the smallest table with the histories of the table that was explored.
+use mathlib.Core.Path.{_≡_, refl, sym, ap, _∙_}
+use mathlib.Core.Bool.{true, false≢true}
+use mathlib.Core.List.{List, [], _∷_, _++_, map}
+use Prim.Native.Nat.{ℕ, zero, suc, _+_, _-_, _*_, _<_, _≤_}
+use native.Mathlib.Omega.{arith}
+use lib.ListN.{length, getD, take, drop, length-map, length-drop}
+use lib.Seq.{ext-getD, getD-take, getD-drop, length-take-le}
+use Rattle.automaton.specs.Machine.{Machine, step, isState}
+use Rattle.automaton.specs.Explore.{Reached, numberIn, reached}
+use Rattle.automaton.specs.Table.{rowOf, table}
+use Rattle.automaton.specs.Join.{joined, minimal}
+use Rattle.automaton.proofs.Counting.{length-list-below, getD-list-below}
+use Rattle.automaton.proofs.WellFormed.{getD-map-within}
+use Rattle.automaton.proofs.Exploring.{stateAt}
+use Rattle.automaton.proofs.Tables.{table-length}
+use Rattle.definitions.specs.Bytes.{byte}
+use Rattle.build.specs.States.{states}
+use Rattle.build.specs.Rows.{numberedRow, numberedRows}
+use Rattle.build.specs.Classes.{rowsWith}
+use Rattle.build.specs.Numbers.{Joined, StatesBelow, joinedIn, classesReached, stateNumbers}
+use Rattle.build.proofs.States.{length-states, state-at}
+use Rattle.build.proofs.Reaching.{row-of-table}
+use Rattle.build.proofs.TableBytes.{state-row, state-entry}
+use Rattle.build.proofs.Classing.{count, joined-step, classes-sound}
+use Rattle.build.proofs.Ordering.{state-low}
+use Rattle.build.proofs.Writing.{looked-length}
+
+module _ {raw : List ℕ} {w : ℕ} {array : List ℕ} (ok : Joined raw w array) where
+  abbrev L : List Reached
+  L = classesReached raw w array
+
+  abbrev J : Machine
+  J = joinedIn raw w array
+
+  abbrev numbers : List ℕ
+  numbers = stateNumbers raw w array
+
+  numbers-length : length numbers ≡ length array
+  numbers-length = length-map array (numberIn L)
+
+  state-is : (i : ℕ) → i < length L → (1 ≤ stateAt L i) × (stateAt L i < length array)
+  state-is i l = (go (stateAt L i) (classes-sound ok .states i l), omega (arith, state-low ok i l, ok .table .some))
+    where
+      go : (s : ℕ) → isState s ≡ true → 1 ≤ s
+      go zero p = absurd (false≢true p)
+      go (suc s) p = omega arith
+
+  pub order-states : StatesBelow (states L) (length numbers)
+  order-states i l =
+      let b : i < length L = omega (arith, length-states L) in
+      let s = state-is i b in
+      rw (state-at L i b) (s .0, omega (arith, s .1, numbers-length))
+
+  -- the row of a class, entry by entry
+  numbered-row : (s : ℕ) → 1 ≤ s → s < length array → numberedRow raw w numbers s ≡ rowOf J L s
+  numbered-row s p l =
+      let low : s ≤ length array - 1 = omega arith in
+      let fits : w ≤ length (drop ((s - 1) * w) raw) = rw length-drop (omega (arith, state-row (ok .table) s p low)) in
+      let long : length (numberedRow raw w numbers s) ≡ w = looked-length numbers (drop ((s - 1) * w) raw) w fits in
+      ext-getD 0 (numberedRow raw w numbers s) (rowOf J L s) (long ∙ sym (length-list-below (λ c. numberIn L (step J s c)) w))
+      (λ c b. entry c (omega arith) fits)
+    where
+      entry : (c : ℕ) → c < w → w ≤ length (drop ((s - 1) * w) raw) → getD (numberedRow raw w numbers s) c 0 ≡ getD (rowOf J L s) c 0
+      entry c b fits =
+          let low : s ≤ length array - 1 = omega arith in
+          let e = byte raw ((s - 1) * w + c) in
+          let inside : e < length array = omega (arith, state-entry (ok .table) s p low c b) in
+          getD-map-within (byte numbers) (take w (drop ((s - 1) * w) raw)) c 0 0 (omega (arith, length-take-le w (drop ((s - 1) * w) raw) fits))
+          ∙ ap (byte numbers) (getD-take w (drop ((s - 1) * w) raw) c 0 b ∙ getD-drop ((s - 1) * w) raw c 0)
+          ∙ getD-map-within (numberIn L) array e 0 0 inside
+          ∙ ap (numberIn L) (joined-step ok s c p l b)
+          ∙ sym (getD-list-below (λ c. numberIn L (step J s c)) w c 0 b)
+
+  pub numbered-minimal : numberedRows raw w numbers (states L) ≡ minimal w (rowsWith raw w array)
+  unfolding minimal
+  numbered-minimal =
+      let long : length (numberedRows raw w numbers (states L)) ≡ length L = length-map (states L) (numberedRow raw w numbers) ∙ length-states L in
+      ext-getD [] (numberedRows raw w numbers (states L)) (table J L) (long ∙ sym (table-length J L)) (λ i b. row i (omega arith))
+      ∙ ap (λ (n : ℕ). table J (reached J n)) (sym (count ok))
+    where
+      row : (i : ℕ) → i < length L → getD (numberedRows raw w numbers (states L)) i [] ≡ getD (table J L) i []
+      row i l =
+          let s = state-is i l in
+          getD-map-within (numberedRow raw w numbers) (states L) i 0 [] (omega (arith, length-states L))
+          ∙ ap (numberedRow raw w numbers) (state-at L i l)
+          ∙ numbered-row (stateAt L i) (s .0) (s .1)
+          ∙ sym (row-of-table J L i l)

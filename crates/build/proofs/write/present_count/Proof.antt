@@ -1,0 +1,48 @@
+use mathlib.Core.Path.{_≡_, refl, sym, ap, _∙_}
+use borrow.Author.Tests.{lt-ltb, le-ltb}
+use borrow.Author.Needs.{needs}
+use Rattle.build.proofs.write.present_count.Statement.{statement}
+use Rattle.build.proofs.write.present_count.Tie as tie
+use Rattle.build.proofs.write.present_count.Reads as reads
+use Rattle.build.proofs.write.present_count.Lts as lts
+use Rattle.automaton.proofs.wide.Reads as wide-reads
+
+-- src/write.rt:46:17
+shared-slice-read-wide : tie.Need-shared-slice-read-wide
+shared-slice-read-wide c = search needs
+
+-- src/write.rt:46:12
+wide-requires : tie.Need-wide-requires
+wide-requires c κs = search needs
+
+-- src/write.rt:47:23
+add-result : tie.Need-add-result
+add-result c = search needs
+
+-- src/write.rt:47:16
+shared-slice-read-result : tie.Need-shared-slice-read-result
+shared-slice-read-result c = search needs
+
+-- src/write.rt:47:9
+returns : tie.Need-returns
+returns c =
+    let p = c .before .before .before .before .before in
+    let l = rw (c .before .before .wide .ensures .0) at (c .before .if1 .taken) in
+    simp (lt-ltb _ _ l)
+
+-- src/write.rt:42:1
+returns-2 : tie.Need-returns-2
+returns-2 c =
+    let l = rw (c .before .wide .ensures .0) at (c .if1 .left) in
+    simp (le-ltb _ _ l)
+
+pub present-count-spec : {M : Type 1} → statement M
+present-count-spec =
+    tie.close
+    (tie.spec
+    shared-slice-read-wide
+    wide-requires
+    add-result
+    shared-slice-read-result
+    returns
+    returns-2)

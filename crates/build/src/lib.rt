@@ -1,0 +1,112 @@
+// From a policy to its book: the situations that histories reach, alike ones joined, numbered by their earliest history, and written as bytes.
+mod explore;
+mod refine;
+mod number;
+mod write;
+
+ghost use mathlib.Core.Path.{_≡_};
+ghost use Prim.Native.Nat.{_+_, _*_, _≤_};
+ghost use lib.ListN.{length, replicate};
+ghost use Rattle.automaton.specs.Join.{minimal};
+ghost use Rattle.definitions.specs.Answer.{written};
+ghost use Rattle.definitions.specs.Policy.{fields, frame};
+ghost use Rattle.definitions.specs.Book.{bookBytes};
+ghost use Rattle.definitions.specs.Refusal.{fileRefusal};
+ghost use Rattle.definitions.specs.Build.{buildAnswer, buildBuffer};
+ghost use Rattle.build.specs.Rows.{rowsIn};
+ghost use Rattle.build.specs.Classes.{TableIn};
+ghost use Rattle.build.specs.Built.{builtAnswer};
+use policy::shape::Shape;
+
+// The book of a policy whose situations have the `n` rows of `raw`: alike ones are joined, numbered and written. Gives the book's length. The bytes after
+// it stay. The last four slices are room to work in, the last of them all zeros before; nothing is said of what they hold afterwards.
+fn write_joined(
+    book: &mut [u8],
+    policy: &[u8],
+    raw: &[u8],
+    n: usize,
+    w: usize,
+    classes: &mut [u8],
+    next: &mut [u8],
+    order: &mut [u8],
+    numbers: &mut [u8],
+) -> usize
+    requires { ⌜ TableIn (now raw) n w × (n ≤ 127) × (12 + n * w ≤ length (now book)) ⌝ }
+    requires { ⌜ (9 ≤ length (now policy)) × (9 + fields (now policy) ≤ length (now policy)) ⌝ }
+    requires { ⌜ (128 ≤ length (now classes)) × (128 ≤ length (now next)) × (128 ≤ length (now order)) ⌝ }
+    requires { ⌜ (128 ≤ length (now numbers)) × (now numbers ≡ replicate (length (now numbers)) 0) ⌝ }
+    ensures { λ r. ⌜ r ≡ length (bookBytes (frame (now (policy .entry))) (minimal w (rowsIn (now (raw .entry)) n w))) ⌝ }
+    ensures { λ r. ⌜ now (book .exit) ≡ written (bookBytes (frame (now (policy .entry))) (minimal w (rowsIn (now (raw .entry)) n w))) (now (book .entry)) ⌝ }
+{
+    let size = n + 1;
+    refine::refine_all(raw, w, &mut classes[..size], &mut next[..size]);
+    let k = number::number(raw, w, &classes[..size], order, &mut numbers[..size]);
+    write::write_book(book, policy, raw, w, &order[..k], &numbers[..size])
+}
+
+// What building gives: the number of the row that turns the call down, or the length of the book that was written.
+pub enum Built {
+    Refused(usize),
+    Written(usize),
+}
+
+// The book of a policy that no row up to 10 turns down. Row 11, over 127 situations, leaves the buffer alone, and bytes after the book stay. The slices
+// after the first two are room to work in, the last of them all zeros before; nothing is said of what they hold afterwards.
+fn build_in(
+    policy: &[u8],
+    book: &mut [u8],
+    images: &mut [u64],
+    found: &mut [u64],
+    raw: &mut [u8],
+    classes: &mut [u8],
+    next: &mut [u8],
+    order: &mut [u8],
+    numbers: &mut [u8],
+) -> Built
+    requires { ⌜ (fileRefusal (now policy) ≡ 0) × (17284 ≤ length (now book)) ⌝ }
+    requires { ⌜ (8704 ≤ length (now images)) × (128 ≤ length (now found)) × (17272 ≤ length (now raw)) ⌝ }
+    requires { ⌜ (128 ≤ length (now classes)) × (128 ≤ length (now next)) × (128 ≤ length (now order)) ⌝ }
+    requires { ⌜ (128 ≤ length (now numbers)) × (now numbers ≡ replicate (length (now numbers)) 0) ⌝ }
+    ensures { λ r. ⌜ builtAnswer r ≡ buildAnswer (now (policy .entry)) (now (book .entry)) ⌝ }
+    ensures { λ r. ⌜ now (book .exit) ≡ buildBuffer (now (policy .entry)) (now (book .entry)) ⌝ }
+{
+    let shape = Shape::of(policy);
+    let w = shape.width;
+    images::fill_images(policy, shape, images);
+    let n = explore::explore(images, shape.valuations, w, found, raw);
+    if n == 0 {
+        return Built::Refused(11);
+    }
+    Built::Written(write_joined(book, policy, raw, n, w, classes, next, order, numbers))
+}
+
+// The same, with arrays for room.
+fn build_passed(policy: &[u8], book: &mut [u8]) -> Built
+    requires { ⌜ (fileRefusal (now policy) ≡ 0) × (17284 ≤ length (now book)) ⌝ }
+    ensures { λ r. ⌜ builtAnswer r ≡ buildAnswer (now (policy .entry)) (now (book .entry)) ⌝ }
+    ensures { λ r. ⌜ now (book .exit) ≡ buildBuffer (now (policy .entry)) (now (book .entry)) ⌝ }
+{
+    let mut images = [0u64; 8704];
+    let mut found = [0u64; 128];
+    let mut raw = [0u8; 17272];
+    let mut classes = [0u8; 128];
+    let mut next = [0u8; 128];
+    let mut order = [0u8; 128];
+    let mut numbers = [0u8; 128];
+    build_in(policy, book, &mut images, &mut found, &mut raw, &mut classes, &mut next, &mut order, &mut numbers)
+}
+
+// The book of a policy, in the first bytes of the buffer; the bytes after it stay. A refusal leaves the whole buffer as it was.
+pub fn build(policy: &[u8], book: &mut [u8]) -> Built
+    ensures { λ r. ⌜ builtAnswer r ≡ buildAnswer (now (policy .entry)) (now (book .entry)) ⌝ }
+    ensures { λ r. ⌜ now (book .exit) ≡ buildBuffer (now (policy .entry)) (now (book .entry)) ⌝ }
+{
+    if book.len() < 17284 {
+        return Built::Refused(1);
+    }
+    let number = policy::file_refusal(policy);
+    if number != 0 {
+        return Built::Refused(number);
+    }
+    build_passed(policy, book)
+}

@@ -1,0 +1,109 @@
+-- `policy::images::fill_rows` meets its contract. The loop's invariant: the rows of the valuations before v are filled.
+use mathlib.Core.Path.{_≡_, ap}
+use Prim.Native.Nat.{_≤_, _-_, _+_, _*_}
+use native.Mathlib.Omega.{arith}
+use native.Mathlib.Nat.{zero-mul}
+use lib.ListN.{length, length-drop}
+use borrow.Author.Needs.{needs}
+use Rattle.automaton.proofs.Loops.{part-is-drop, row-within}
+use Rattle.definitions.specs.Policy.{width}
+use Rattle.definitions.specs.Valuation.{valuations}
+use Rattle.policy.specs.declared.shape.Shape.{Shape}
+use Rattle.images.specs.Tables.{Filled}
+use Rattle.images.specs.Images.{imageAt}
+use Rattle.images.proofs.Imaged.{rows-more}
+use Rattle.images.proofs.Tables.{filled-none}
+use Rattle.images.proofs.fill_rows.Statement.{statement}
+use Rattle.images.proofs.fill_rows.Tie as tie
+
+abbrev Inv-loop : tie.InvT-loop
+Inv-loop policy table shape bounds lets decisions images₀ w n v₀ images v = (v ≤ n) × Filled 0 0 (v * w) (imageAt policy) images₀ images
+
+abbrev μ-loop : tie.MeasureT-loop
+μ-loop policy table shape bounds lets decisions images₀ w n v₀ images v = n - v
+
+width-is : (c : tie.Start Inv-loop μ-loop) → c .args .shape .width ≡ width (c .args .policy .now)
+width-is c = ap (λ (s : Shape). s .width) (c .pre .0 .shaped)
+
+valuations-are : (c : tie.Start Inv-loop μ-loop) → c .args .shape .valuations ≡ valuations (c .args .policy .now)
+valuations-are c = ap (λ (s : Shape). s .valuations) (c .pre .0 .shaped)
+
+all-fit : (c : tie.Start Inv-loop μ-loop) → c .args .shape .valuations * c .args .shape .width ≤ length (c .args .images .now)
+all-fit c = rw (valuations-are c, width-is c) (c .pre .1)
+
+within : (c : tie.In-loop Inv-loop μ-loop)
+    → let start = c .before .before .before .before .before .before .before .before in
+    c .before .loop .v * start .args .shape .width + start .args .shape .width ≤ length (c .before .loop .images)
+within c =
+    let start = c .before .before .before .before .before .before .before .before in
+    let h = row-within (c .before .loop .v) (start .args .shape .valuations) (start .args .shape .width) (c .loop-test .taken) in
+    omega (arith, all-fit start, c .before .loop .inv .1 .same-length)
+
+loop-holds : tie.Need-loop-holds Inv-loop μ-loop
+loop-holds c =
+    let start = c .before .before .before .before .before .before in
+    (search needs, rw zero-mul (filled-none 0 0 (imageAt (start .args .policy .now)) (start .args .images .now)))
+
+mul-at : tie.Need-mul-at Inv-loop μ-loop
+mul-at c = omega (arith, within c)
+
+mul-fill-row : tie.Need-mul-fill-row Inv-loop μ-loop
+mul-fill-row c = omega (arith, within c)
+
+sub-fill-row : tie.Need-sub-fill-row Inv-loop μ-loop
+sub-fill-row c = omega (arith, within c)
+
+part-fill-row-start : tie.Need-part-fill-row-start Inv-loop μ-loop
+part-fill-row-start c = omega (arith, within c)
+
+part-fill-row-end : tie.Need-part-fill-row-end Inv-loop μ-loop
+part-fill-row-end c = search needs
+
+fill-row-requires : tie.Need-fill-row-requires Inv-loop μ-loop
+fill-row-requires c κs =
+    let start = c .before .before .before .before .before .before .before .before .before in
+    (start .pre .0, rw (part-is-drop, length-drop) (omega (arith, within (c .before), width-is start)))
+
+add-v : tie.Need-add-v Inv-loop μ-loop
+add-v c = search needs
+
+loop-less : tie.Need-loop-less Inv-loop μ-loop
+loop-less c = search needs
+
+loop-again : tie.Need-loop-again Inv-loop μ-loop
+loop-again c =
+    let start = c .before .before .before .before .before .before .before .before .before .before .before .before in
+    let loop = c .before .before .before .before .before .loop in
+    let fill-row = c .before .before .fill-row in (
+      omega arith,
+      rows-more (start .args .policy .now) (start .args .shape .width) (loop .v) (start .args .images .now) (loop .images) _ (width-is start) (within (c .before .before .before .before)) (loop .inv .1) (fill-row .kept .1 .1 .1 .1 .1 .1 .1 .0)
+          (fill-row .ensures),
+    )
+
+same-length : tie.Need-same-length Inv-loop μ-loop
+same-length c = c .before .loop .inv .1 .same-length
+
+returns : tie.Need-returns Inv-loop μ-loop
+returns c =
+    let start = c .before .before .before .before .before .before .before .before in
+    let e : c .before .loop .v ≡ start .args .shape .valuations = omega arith in
+    rw (← (valuations-are start), ← (width-is start), ← e) (c .before .loop .inv .1)
+
+pub fill-rows-spec : {M : Type 1} → statement M
+fill-rows-spec =
+    tie.close
+    (tie.spec
+    Inv-loop
+    μ-loop
+    loop-holds
+    mul-at
+    mul-fill-row
+    sub-fill-row
+    part-fill-row-start
+    part-fill-row-end
+    fill-row-requires
+    add-v
+    loop-less
+    loop-again
+    same-length
+    returns)

@@ -1,0 +1,162 @@
+// Where every code leads from every valuation, as one table of sets.
+mod deciding;
+mod effects;
+mod matching;
+
+ghost use mathlib.Core.Path.{_≡_};
+ghost use Prim.Native.Nat.{_+_, _*_, _<_, _≤_};
+ghost use lib.ListN.{length};
+ghost use Rattle.definitions.specs.Policy.{events, variables, rules, width};
+ghost use Rattle.definitions.specs.Valuation.{bound, valuations};
+ghost use Rattle.definitions.specs.Refusal.{fileRefusal};
+ghost use Rattle.policy.specs.Sized.{Passed, TableOf, ChangesOf};
+ghost use Rattle.policy.specs.Shape.{shapeOf};
+ghost use Rattle.images.specs.Tables.{Filled, Tabled};
+ghost use Rattle.images.specs.Images.{ruleDecision, ruleRank, ruleTarget, eventFrom, imageFrom, Prepared, imageAt, ImagesFilled};
+use policy::header;
+use policy::record;
+use policy::shape::Shape;
+use policy::situation::Situation;
+
+// Entry k is the decision of rule k. What follows the entry of the last rule stays.
+fn fill_decisions(policy: &[u8], table: &[u8], decisions: &mut [usize])
+    requires { ⌜ TableOf (now policy) (now table) × (rules (now policy) ≤ length (now decisions)) ⌝ }
+    ensures { λ _. ⌜ Filled 0 0 (rules (now (policy .entry))) (ruleDecision (now (policy .entry))) (now (decisions .entry)) (now (decisions .exit)) ⌝ }
+{
+    let size = header::rule_size(policy);
+    let n = header::rules(policy);
+    let mut k = 0;
+    while k < n {
+        let at = k * size;
+        decisions[k] = record::decision(policy, &table[at..]);
+        k += 1;
+    }
+}
+
+// Entry k is the rank of rule k in valuation v. What follows the entry of the last rule stays.
+fn fill_ranks(policy: &[u8], table: &[u8], bounds: &[usize], v: usize, ranks: &mut [usize])
+    requires { ⌜ Passed (now policy) × TableOf (now policy) (now table) × Tabled 0 (variables (now policy)) (bound (now policy)) (now bounds) × (rules (now policy) ≤ length (now ranks)) ⌝ }
+    ensures { λ _. ⌜ Filled 0 0 (rules (now (policy .entry))) (ruleRank (now (policy .entry)) v) (now (ranks .entry)) (now (ranks .exit)) ⌝ }
+{
+    let size = header::rule_size(policy);
+    let n = header::rules(policy);
+    let mut k = 0;
+    while k < n {
+        let at = k * size;
+        ranks[k] = effects::rank(policy, &table[at..], bounds, v);
+        k += 1;
+    }
+}
+
+// Entry k is the valuation that carrying out rule k leads to from v. What follows the entry of the last rule stays.
+fn fill_targets(policy: &[u8], table: &[u8], bounds: &[usize], v: usize, targets: &mut [usize])
+    requires { ⌜ Passed (now policy) × TableOf (now policy) (now table) × Tabled 0 (variables (now policy)) (bound (now policy)) (now bounds) × (rules (now policy) ≤ length (now targets)) ⌝ }
+    ensures { λ _. ⌜ Filled 0 0 (rules (now (policy .entry))) (ruleTarget (now (policy .entry)) v) (now (targets .entry)) (now (targets .exit)) ⌝ }
+{
+    let size = header::rule_size(policy);
+    let n = header::rules(policy);
+    let first = 2 * header::fields(policy) + 4;
+    let mut k = 0;
+    while k < n {
+        let at = k * size;
+        targets[k] = effects::carried_out(policy, &table[at..], first, 3, bounds, v);
+        k += 1;
+    }
+}
+
+// Entry e is the set of the one valuation that event e leads to from v. What follows the entry of the last event stays.
+fn fill_events(policy: &[u8], changes: &[u8], bounds: &[usize], v: usize, row: &mut [u64])
+    requires { ⌜ Passed (now policy) × ChangesOf (now policy) (now changes) × Tabled 0 (variables (now policy)) (bound (now policy)) (now bounds) × (events (now policy) ≤ length (now row)) ⌝ }
+    ensures { λ _. ⌜ Filled 0 0 (events (now (policy .entry))) (eventFrom (now (policy .entry)) v) (now (row .entry)) (now (row .exit)) ⌝ }
+{
+    let n = header::events(policy);
+    let step = header::variables(policy);
+    let mut e = 0;
+    while e < n {
+        let first = e * step;
+        let target = effects::carried_out(policy, changes, first, 1, bounds, v);
+        let reached = Situation::EMPTY.with(target);
+        row[e] = reached.set;
+        e += 1;
+    }
+}
+
+// Entry c is where code c leads from v. What follows the entry of the last code stays.
+fn fill_row(
+    policy: &[u8],
+    table: &[u8],
+    shape: Shape,
+    bounds: &[usize],
+    lets: &[bool],
+    decisions: &[usize],
+    v: usize,
+    row: &mut [u64],
+)
+    requires { ⌜ Prepared (now policy) (now table) shape (now bounds) (now lets) (now decisions) × (width (now policy) ≤ length (now row)) ⌝ }
+    ensures { λ _. ⌜ Filled 0 0 (width (now (policy .entry))) (imageFrom (now (policy .entry)) v) (now (row .entry)) (now (row .exit)) ⌝ }
+{
+    let mut ranks = [0usize; 32];
+    let mut targets = [0usize; 32];
+    fill_ranks(policy, table, bounds, v, &mut ranks);
+    fill_targets(policy, table, bounds, v, &mut targets);
+    let after_rules = shape.rules * header::rule_size(policy);
+    fill_events(policy, &table[after_rules..], bounds, v, row);
+    deciding::fill_requests(
+        lets,
+        decisions,
+        &ranks,
+        &targets,
+        shape.rules,
+        shape.events,
+        shape.requests,
+        row,
+    );
+}
+
+// Entry v × w + c is where code c leads from valuation v. What follows the entries of the last valuation stays.
+fn fill_rows(
+    policy: &[u8],
+    table: &[u8],
+    shape: Shape,
+    bounds: &[usize],
+    lets: &[bool],
+    decisions: &[usize],
+    images: &mut [u64],
+)
+    requires { ⌜ Prepared (now policy) (now table) shape (now bounds) (now lets) (now decisions) × (valuations (now policy) * width (now policy) ≤ length (now images)) ⌝ }
+    ensures { λ _. ⌜ Filled 0 0 (valuations (now (policy .entry)) * width (now (policy .entry))) (imageAt (now (policy .entry))) (now (images .entry)) (now (images .exit)) ⌝ }
+{
+    let w = shape.width;
+    let n = shape.valuations;
+    let mut v = 0;
+    while v < n {
+        let at = v * w;
+        fill_row(
+            policy,
+            table,
+            shape,
+            bounds,
+            lets,
+            decisions,
+            v,
+            &mut images[at..],
+        );
+        v += 1;
+    }
+}
+
+// The same, of a file that no row turns down. The tables from which it is filled are made once.
+pub fn fill_images(policy: &[u8], shape: Shape, images: &mut [u64])
+    requires { ⌜ (fileRefusal (now policy) ≡ 0) × (shape ≡ shapeOf (now policy)) × (valuations (now policy) * width (now policy) ≤ length (now images)) ⌝ }
+    ensures { λ _. ⌜ ImagesFilled (now (policy .entry)) (now (images .entry)) (now (images .exit)) ⌝ }
+{
+    let mut bounds = [0usize; 4];
+    let mut lets = [false; 2048];
+    let mut decisions = [0usize; 32];
+    let after_counts = 9 + shape.fields;
+    let table = &policy[after_counts..];
+    effects::fill_bounds(policy, table, &mut bounds);
+    matching::fill_lets(policy, table, &mut lets);
+    fill_decisions(policy, table, &mut decisions);
+    fill_rows(policy, table, shape, &bounds, &lets, &decisions, images);
+}
