@@ -87,9 +87,9 @@ row-of-concat w (row ∷ rows) rest wide zero l =
 row-of-concat w (row ∷ rows) rest wide (suc k) l =
     let first : length row ≡ w = wide 0 (omega arith) in
     let past : drop (suc k * w) ((row ++ concat rows) ++ rest) ≡ drop (k * w) (concat rows ++ rest) =
-        ap (λ (n : ℕ). drop n ((row ++ concat rows) ++ rest)) (suc-mul k w ∙ add-comm (k * w) w)
-        ∙ sym (drop-drop (k * w) w ((row ++ concat rows) ++ rest))
-        ∙ ap (λ (x : List ℕ). drop (k * w) x) (rw append-assoc (drop-at row (concat rows ++ rest) w first)) in
+    ap (λ (n : ℕ). drop n ((row ++ concat rows) ++ rest)) (suc-mul k w ∙ add-comm (k * w) w)
+    ∙ sym (drop-drop (k * w) w ((row ++ concat rows) ++ rest))
+    ∙ ap (λ (x : List ℕ). drop (k * w) x) (rw append-assoc (drop-at row (concat rows ++ rest) w first)) in
     ap (λ (x : List ℕ). take w x) past ∙ row-of-concat w rows rest (tail-wide w row rows wide) k (omega arith)
 
 -- a table is read back from its bytes
@@ -113,7 +113,7 @@ pub laid-after : (header : List ℕ) (rows : List (List ℕ)) (buffer : List ℕ
     → laid h rows (written header buffer) ≡ written (header ++ concat rows) buffer
 laid-after header rows buffer h e =
     let rest : drop (h + length (concat rows)) (written header buffer) ≡ drop (h + length (concat rows)) buffer =
-        rw (← e) (drop-append-add header (drop (length header) buffer) (length (concat rows)) ∙ drop-drop (length (concat rows)) (length header) buffer) in
+    rw (← e) (drop-append-add header (drop (length header) buffer) (length (concat rows)) ∙ drop-drop (length (concat rows)) (length header) buffer) in
     let size : length (header ++ concat rows) ≡ h + length (concat rows) = rw (length-append, e) in
     rw (take-written header buffer h e, rest, size, append-assoc)
 
@@ -135,7 +135,7 @@ module _ (h : ℕ) (rows : List (List ℕ)) (buffer : List ℕ) (fits : h + leng
       → putMid a (length x - a) x part ≡ laid h (rows ++ (row ∷ [])) buffer
   laid-more row x part a ex ea ep =
       let front : take a x ≡ take h buffer ++ concat rows =
-          rw (ex, ea, laid-split) (take-at (take h buffer ++ concat rows) (drop (h + length (concat rows)) buffer) (h + length (concat rows)) laid-head) in
+      rw (ex, ea, laid-split) (take-at (take h buffer ++ concat rows) (drop (h + length (concat rows)) buffer) (h + length (concat rows)) laid-head) in
       let rest : drop a x ≡ drop a buffer = rw (ex, ea) laid-rest in
       let all : concat (rows ++ (row ∷ [])) ≡ concat rows ++ row = concat-append rows (row ∷ []) ∙ ap (λ (l : List ℕ). concat rows ++ l) (append-nil row) in
       let end : h + length (concat rows ++ row) ≡ a + length row = rw length-append (omega arith) in

@@ -130,9 +130,12 @@ module _ (m : Machine) (begins : isState (m .start) ≡ true) where
             some = some;
             whole = omega (arith, ap length (reaches .rows some), length-written (concat rows) raw (omega (arith, size, fits)), fits);
             entries = λ i b.
-                omega (arith, ap (λ (bytes : List ℕ). getD bytes i 0) (reaches .rows some),
-                List·getD-append (concat rows) (drop (length (concat rows)) raw) 0 i (omega (arith, size)),
-                concat-low n rows (λ s c. omega (arith, is .inside (suc s) c, count)) i);
+                omega (
+                  arith,
+                  ap (λ (bytes : List ℕ). getD bytes i 0) (reaches .rows some),
+                  List·getD-append (concat rows) (drop (length (concat rows)) raw) 0 i (omega (arith, size)),
+                  concat-low n rows (λ s c. omega (arith, is .inside (suc s) c, count)) i,
+                );
           }
 
 -- ---- the situations of a policy
@@ -193,7 +196,7 @@ module _ (p buffer : List ℕ) where
   unfolding buildAnswer buildBuffer
   build-given r after rows e er el ew =
       let book : bookBytes (frame p) (minimal (width p) rows) ≡ bookOf p =
-          ap (λ (rows : List (List ℕ)). bookBytes (frame p) (minimal (width p) rows)) er ∙ sym book-is in (
+      ap (λ (rows : List (List ℕ)). bookBytes (frame p) (minimal (width p) rows)) er ∙ sym book-is in (
         rw e (ap given (el ∙ ap length book)),
         rw e (ew ∙ ap (λ (bytes : List ℕ). written bytes buffer) book),
       )

@@ -96,6 +96,8 @@ module _ (order numbers : List ℕ) (count x : ℕ) (room : count < length order
       let more : withState l x ≡ l ++ (x ∷ []) = with-new l x p zero in
       let next : count + 1 ≡ suc (length l) = omega (arith, long) in (
         rw (more, length-append) (omega (arith, long)),
-        (rw more (ap (λ (b : List ℕ). set b count x) (sym (written-take count order (omega arith))) ∙ written-next l order count x long room),
-        rw (more, next) (ap (λ (b : List ℕ). set b x (suc (length l))) are ∙ numbers-new k l x inside p zero)),
+        (
+          rw more (ap (λ (b : List ℕ). set b count x) (sym (written-take count order (omega arith))) ∙ written-next l order count x long room),
+          rw (more, next) (ap (λ (b : List ℕ). set b x (suc (length l))) are ∙ numbers-new k l x inside p zero),
+        ),
       )

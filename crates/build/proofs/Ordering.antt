@@ -114,7 +114,7 @@ module _ {raw : List ℕ} {w : ℕ} {array order₀ order numbers : List ℕ} {k
         let L = classesReached raw w array in
         let some : 1 ≤ length (states L) = omega (arith, length-states L, now .search .sound .some) in
         let whole : take k order ≡ states L =
-            ap (λ (l : List ℕ). take k l) (done .1) ∙ take-written (states L) order₀ k (length-states L ∙ sym (done .0)) in
+        ap (λ (l : List ℕ). take k l) (done .1) ∙ take-written (states L) order₀ k (length-states L ∙ sym (done .0)) in
         record {
           count = done .0;
           array = done .1 ∙ ap (λ (l : List ℕ). written (states L) l) eo ∙ written-again (1 ∷ []) (states L) first some;

@@ -35,7 +35,7 @@ module _ (f : ℕ → ℕ) (row other : List ℕ) (w : ℕ) (long : w ≤ length
   pub rows-same : ((c : ℕ) → c < w → f (getD row c 0) ≡ f (getD other c 0)) → true ≡ sameList (map f (take w row)) (map f (take w other))
   rows-same same =
       let equal : map f (take w row) ≡ map f (take w other) = ext-getD 0 (map f (take w row)) (map f (take w other)) (row-length row long ∙ sym (row-length other long-other))
-          (λ c b. let l : c < w = omega (arith, row-length row long) in entry-at row c long l ∙ same c l ∙ sym (entry-at other c long-other l)) in
+      (λ c b. let l : c < w = omega (arith, row-length row long) in entry-at row c long l ∙ same c l ∙ sym (entry-at other c long-other l)) in
       sym (rw equal (same-list-refl (map f (take w other))))
 
   pub rows-differ : (c : ℕ) → c < w → (f (getD row c 0) ≡ f (getD other c 0) → ⊥) → false ≡ sameList (map f (take w row)) (map f (take w other))
@@ -165,9 +165,9 @@ module _ {raw : List ℕ} {w : ℕ} {classes : List ℕ} (now : InRounds raw w c
           let first = and-true (eqb (byte classes t) (byte classes s)) _ e in
           let second = and-true (eqb (byte next t) t) _ (first .1) in
           let same : getD (classRows cs rows) (t - 1) [] ≡ getD (classRows cs rows) (s - 1) [] =
-              sym (row-of t pt (omega arith)) ∙ same-list-true _ _ (second .1) ∙ row-of s p (omega arith) in
+          sym (row-of t pt (omega arith)) ∙ same-list-true _ _ (second .1) ∙ row-of s p (omega arith) in
           let class : classOf fine t ≡ f =
-              class-is-first t pt (omega arith) ∙ ap (firstLike (classRows cs rows)) same ∙ sym (class-is-first s p (omega arith)) in
+          class-is-first t pt (omega arith) ∙ ap (firstLike (classRows cs rows)) same ∙ sym (class-is-first s p (omega arith)) in
           omega (arith, named .low t (omega (arith, count)), new-class-at s)
 
       pub search-passed : take s next ≡ take s (nextRound raw w classes) → isFirstAlike raw w classes next s t ≡ false → t + 1 ≤ byte (nextRound raw w classes) s
@@ -177,10 +177,10 @@ module _ {raw : List ℕ} {w : ℕ} {classes : List ℕ} (now : InRounds raw w c
           alike is =
               let old : byte classes t ≡ byte classes s = class-at t ∙ ap (classOf cs) is ∙ together ∙ sym (class-at s) in
               let new : byte next t ≡ t =
-                  sym (getD-take s next t 0 b) ∙ ap (λ (l : List ℕ). getD l t 0) before ∙ getD-take s (nextRound raw w classes) t 0 b
-                  ∙ new-class-at t ∙ ap (classOf fine) is ∙ own ∙ sym is in
+              sym (getD-take s next t 0 b) ∙ ap (λ (l : List ℕ). getD l t 0) before ∙ getD-take s (nextRound raw w classes) t 0 b
+              ∙ new-class-at t ∙ ap (classOf fine) is ∙ own ∙ sym is in
               let same : lookedUp classes w (drop ((t - 1) * w) raw) ≡ lookedUp classes w (drop ((s - 1) * w) raw) =
-                  row-of t pt (omega arith) ∙ ap (λ (x : ℕ). getD (classRows cs rows) (x - 1) []) is ∙ equal ∙ sym (row-of s p (omega arith)) in
+              row-of t pt (omega arith) ∙ ap (λ (x : ℕ). getD (classRows cs rows) (x - 1) []) is ∙ equal ∙ sym (row-of s p (omega arith)) in
               rw (eq-eqb (byte classes t) (byte classes s) old, eq-eqb (byte next t) t new, same)
               (same-list-refl (lookedUp classes w (drop ((s - 1) * w) raw)))
 

@@ -87,7 +87,7 @@ module _ {m : Machine} {most : ℕ} {L : List Reached} {found₀ found : List �
     next-is : next ≡ states more
     next-is =
         let old : take n found ≡ states (now .list) =
-            rw (now .array) (take-written (states (now .list)) found₀ n (length-states (now .list) ∙ sym (now .count))) in
+        rw (now .array) (take-written (states (now .list)) found₀ n (length-states (now .list) ∙ sym (now .count))) in
         rw (old, at-list) (sym (visit-states m t (m .width) (now .list)))
 
     come-on : ToCome m most L (suc s) more

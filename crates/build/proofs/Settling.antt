@@ -97,7 +97,7 @@ module _ {raw : List ℕ} {w : ℕ} {array : List ℕ} (now : InRounds raw w arr
     settling-done old same-length same =
         let equal : array ≡ next = same-list-true array next same in
         let still : refine rows (classesAfter rows (now .rounds)) ≡ classesAfter rows (now .rounds) =
-            ap (λ (l : List ℕ). drop 1 l) (sym (e ∙ next-is now) ∙ sym equal ∙ now .are) in
+        ap (λ (l : List ℕ). drop 1 l) (sym (e ∙ next-is now) ∙ sym equal ∙ now .are) in
         let last : array ≡ lastRound raw w array = now .are ∙ ap (λ (l : List ℕ). 0 ∷ l) (sym (classes-settled w rows (is-table now) (now .rounds) still)) in
         let done : array ≡ lastRound raw w old = last ∙ ap (λ (k : ℕ). 0 ∷ classes (rowsIn raw (k - 1) w)) same-length in
         (done, sym equal ∙ done)

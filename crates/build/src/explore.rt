@@ -10,7 +10,14 @@ ghost use Rattle.build.specs.States.{states, numberAmong, withState, Vis
 use policy::situation::Situation;
 
 // `found`, and the valuations that code `c` leads to from `v` if `v` is in the situation.
-fn with_image(images: &[u64], w: usize, situation: Situation, c: usize, v: usize, found: Situation) -> Situation
+fn with_image(
+    images: &[u64],
+    w: usize,
+    situation: Situation,
+    c: usize,
+    v: usize,
+    found: Situation,
+) -> Situation
     requires { ⌜ (v < 64) × (v * w + c < length (now images)) ⌝ }
     ensures { λ r. ⌜ r .set ≡ withImageAt (now (images .entry)) w (situation .set) c v (found .set) ⌝ }
 {
@@ -79,7 +86,15 @@ fn greater(a: usize, b: usize) -> usize
 
 // The codes are tried, in order, from a situation that was found: the row gets the numbers of the situations that they lead to, and new ones are put in
 // after the first `n`. Gives how many are found then. It stops at the 128th: then it gives 128, and neither list is whole.
-fn visit(images: &[u64], valuations: usize, w: usize, found: &mut [u64], n: usize, situation: Situation, row: &mut [u8]) -> usize
+fn visit(
+    images: &[u64],
+    valuations: usize,
+    w: usize,
+    found: &mut [u64],
+    n: usize,
+    situation: Situation,
+    row: &mut [u8],
+) -> usize
     requires { ⌜ (valuations ≤ 64) × (valuations * w ≤ length (now images)) ⌝ }
     requires { ⌜ (n ≤ 127) × (128 ≤ length (now found)) × (w ≤ length (now row)) × (0 < situation .set) ⌝ }
     ensures { λ r. ⌜ Visited (imagesMachine (now (images .entry)) valuations w) (situation .set) (take n (now (found .entry)))
@@ -101,7 +116,13 @@ fn visit(images: &[u64], valuations: usize, w: usize, found: &mut [u64], n: usiz
 
 // The situations that histories reach, in the order of their earliest history, with the rows of the table of their steps one after another in `raw`.
 // Gives how many there are; 0 if there are over 127, and then nothing is said of what `found` and `raw` hold.
-pub fn explore(images: &[u64], valuations: usize, w: usize, found: &mut [u64], raw: &mut [u8]) -> usize
+pub fn explore(
+    images: &[u64],
+    valuations: usize,
+    w: usize,
+    found: &mut [u64],
+    raw: &mut [u8],
+) -> usize
     requires { ⌜ (valuations ≤ 64) × (valuations * w ≤ length (now images)) ⌝ }
     requires { ⌜ (128 ≤ length (now found)) × (127 * w ≤ length (now raw)) ⌝ }
     ensures { λ r. ⌜ Reaches (imagesMachine (now (images .entry)) valuations w)
@@ -113,7 +134,15 @@ pub fn explore(images: &[u64], valuations: usize, w: usize, found: &mut [u64], r
     while s < n {
         let set = found[s];
         let at = s * w;
-        n = visit(images, valuations, w, found, n, Situation { set }, &mut raw[at..]);
+        n = visit(
+            images,
+            valuations,
+            w,
+            found,
+            n,
+            Situation { set },
+            &mut raw[at..],
+        );
         if 127 < n {
             return 0;
         }

@@ -1,7 +1,7 @@
 // From a policy to its book: the situations that histories reach, alike ones joined, numbered by their earliest history, and written as bytes.
 mod explore;
-mod refine;
 mod number;
+mod refine;
 mod write;
 
 ghost use mathlib.Core.Path.{_≡_};
@@ -93,7 +93,17 @@ fn build_passed(policy: &[u8], book: &mut [u8]) -> Built
     let mut next = [0u8; 128];
     let mut order = [0u8; 128];
     let mut numbers = [0u8; 128];
-    build_in(policy, book, &mut images, &mut found, &mut raw, &mut classes, &mut next, &mut order, &mut numbers)
+    build_in(
+        policy,
+        book,
+        &mut images,
+        &mut found,
+        &mut raw,
+        &mut classes,
+        &mut next,
+        &mut order,
+        &mut numbers,
+    )
 }
 
 // The book of a policy, in the first bytes of the buffer; the bytes after it stay. A refusal leaves the whole buffer as it was.

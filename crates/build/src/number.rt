@@ -29,7 +29,15 @@ fn note_class(order: &mut [u8], numbers: &mut [u8], count: usize, class: usize) 
 }
 
 // The classes that the codes lead to from class `s` are noted, in the order of the codes.
-fn visit_class(raw: &[u8], w: usize, classes: &[u8], order: &mut [u8], numbers: &mut [u8], count: usize, s: usize) -> usize
+fn visit_class(
+    raw: &[u8],
+    w: usize,
+    classes: &[u8],
+    order: &mut [u8],
+    numbers: &mut [u8],
+    count: usize,
+    s: usize,
+) -> usize
     requires { ⌜ Joined (now raw) w (now classes) × (1 ≤ s) × (s < length (now classes)) ⌝ }
     requires { ⌜ (128 ≤ length (now order)) × (count ≤ 127) × (now numbers ≡ numbersBelow (length (now classes)) (take count (now order))) ⌝ }
     requires { ⌜ length (afterCodes (joinedIn (now raw) w (now classes)) s w (take count (now order))) ≤ 127 ⌝ }

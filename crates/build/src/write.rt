@@ -70,7 +70,14 @@ fn write_header(book: &mut [u8], policy: &[u8], n: usize)
 }
 
 // The book of a policy whose states are in `order`. Gives its length. The bytes after it stay.
-pub fn write_book(book: &mut [u8], policy: &[u8], raw: &[u8], w: usize, order: &[u8], numbers: &[u8]) -> usize
+pub fn write_book(
+    book: &mut [u8],
+    policy: &[u8],
+    raw: &[u8],
+    w: usize,
+    order: &[u8],
+    numbers: &[u8],
+) -> usize
     requires { ⌜ TableIn (now raw) (length (now numbers) - 1) w × StatesBelow (now order) (length (now numbers)) ⌝ }
     requires { ⌜ (12 + length (now order) * w ≤ length (now book)) × (length (now order) ≤ 127) ⌝ }
     requires { ⌜ (9 ≤ length (now policy)) × (9 + fields (now policy) ≤ length (now policy)) ⌝ }

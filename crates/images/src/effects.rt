@@ -9,10 +9,10 @@ ghost use Rattle.policy.specs.Sized.{Passed, TableOf, RuleOf};
 ghost use Rattle.images.specs.Tables.{Filled, Tabled};
 ghost use Rattle.policy.specs.Record.{partTestPasses};
 ghost use Rattle.images.specs.Images.{Spread, spread, rank};
+use automaton::wide;
 use policy::header;
 use policy::record;
 use policy::valuation;
-use automaton::wide;
 
 // Entry j is the bound of variable j. What follows the entry of the last variable stays.
 pub fn fill_bounds(policy: &[u8], table: &[u8], bounds: &mut [usize])

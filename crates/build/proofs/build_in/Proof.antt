@@ -48,9 +48,10 @@ book-of c =
     let a = c .before .before .before .before .before .before .before .before .before .before .before .before .before .before .before .before .before .before .before .before .before .before .before .before .before .before .before .before .before .before .args in
     let x = c .before .before .before .before .before .before .before .before .before .before .before .before .explore in
     let b = c .write-joined .ensures in
-    let e = wide (c .before .before .before .before .before .before .before .before .before .before .before .before .before .before .before .before .before .before .before .before) in
-    (b .0 ∙ ap (λ (w : ℕ). length (bookBytes (frame (a .policy .now)) (minimal w (rowsIn (x .last .1 .1 .1 .1 .0) (x .result) w)))) e,
-    b .1 ∙ ap (λ (w : ℕ). written (bookBytes (frame (a .policy .now)) (minimal w (rowsIn (x .last .1 .1 .1 .1 .0) (x .result) w))) (a .book .now)) e)
+    let e = wide (c .before .before .before .before .before .before .before .before .before .before .before .before .before .before .before .before .before .before .before .before) in (
+      b .0 ∙ ap (λ (w : ℕ). length (bookBytes (frame (a .policy .now)) (minimal w (rowsIn (x .last .1 .1 .1 .1 .0) (x .result) w)))) e,
+      b .1 ∙ ap (λ (w : ℕ). written (bookBytes (frame (a .policy .now)) (minimal w (rowsIn (x .last .1 .1 .1 .1 .0) (x .result) w))) (a .book .now)) e,
+    )
 
 -- END
 
@@ -101,9 +102,10 @@ write-joined-requires c κs =
     let r = c .before .before .before .before .before .before .before .before .before .before .before in
     let n = explored-count _ refl (fits r) (reaches r) (c .before .before .before .before .before .before .if1 .left) .1 in
     let low = book-fits (p .args .policy .now) (p .pre .0 .0) (c .before .before .before .before .before .before .before .before .before .before .before .explore .result) n in
-    rw (c .before .before .before .before .before .before .before .before .before .before .before .before .before .before .before .before .before .before .before .of .ensures)
-    ((explored-table _ refl (fits r) (reaches r) (c .before .before .before .before .before .before .if1 .left), n, omega (arith, p .pre .0 .1)),
-    (header-read (p .args .policy .now) (p .pre .0 .0), (p .pre .1 .1 .0, p .pre .1 .1 .1)))
+    rw (c .before .before .before .before .before .before .before .before .before .before .before .before .before .before .before .before .before .before .before .of .ensures) (
+      (explored-table _ refl (fits r) (reaches r) (c .before .before .before .before .before .before .if1 .left), n, omega (arith, p .pre .0 .1)),
+      (header-read (p .args .policy .now) (p .pre .0 .0), (p .pre .1 .1 .0, p .pre .1 .1 .1)),
+    )
 
 -- src/lib.rt:56:1
 same-length-4 : tie.Need-same-length-4

@@ -98,10 +98,12 @@ number-requires : tie.Need-number-requires
 number-requires c κs =
     let p = c .before .before .before .before .before .before .before .before .before .before .before .before .before .before .before .before .before in
     let r = c .before .before .before .before .before .before .before in
-    rw (whole r)
-    (classed-here r .joined, p .pre .1 .1 .0 .2,
-    ap (λ (l : List ℕ). take (p .args .n + 1) l) (p .pre .1 .1 .1 .1) ∙ take-replicate (p .args .n + 1) (length (p .args .numbers .now)) (omega arith)
-    ∙ ap (λ (k : ℕ). replicate k 0) (sym (size r)))
+    rw (whole r) (
+      classed-here r .joined,
+      p .pre .1 .1 .0 .2,
+      ap (λ (l : List ℕ). take (p .args .n + 1) l) (p .pre .1 .1 .1 .1) ∙ take-replicate (p .args .n + 1) (length (p .args .numbers .now)) (omega arith)
+          ∙ ap (λ (k : ℕ). replicate k 0) (sym (size r)),
+    )
 
 -- src/lib.rt:40:45
 slice-reshare-prefix-write-book : tie.Need-slice-reshare-prefix-write-book
@@ -127,9 +129,10 @@ write-book-requires c κs =
     let p = c .before .before .before .before .before .before .before .before .before .before .before .before .before .before .before .before .before .before .before .before .before .before .before .before .before in
     let k = classed-here (c .before .before .before .before .before .before .before .before .before .before .before .before .before .before .before) in
     let n = numbered (c .before .before .before .before .before .before .before) in
-    rw (whole-numbers (c .before .before .before .before .before .before .before))
-    ((numbers-table k n, order-below k n),
-    ((rows-fit k n (length (p .args .book .now)) (p .pre .0 .2), rw (order-length k n) (omega (arith, order-low k n, p .pre .0 .1))), p .pre .1 .0))
+    rw (whole-numbers (c .before .before .before .before .before .before .before)) (
+      (numbers-table k n, order-below k n),
+      ((rows-fit k n (length (p .args .book .now)) (p .pre .0 .2), rw (order-length k n) (omega (arith, order-low k n, p .pre .0 .1))), p .pre .1 .0),
+    )
 
 -- src/lib.rt:19:1
 same-length : tie.Need-same-length
@@ -158,9 +161,10 @@ returns c =
     let b = c .before .before .write-book .ensures in
     let order = take (c .before .before .before .before .before .before .before .before .before .before .number .result) (c .before .before .before .before .before .before .before .before .before .before .number .last .1 .1 .1 .0) in
     let e = ap (λ (l : List ℕ). numberedRows (a .raw .now) (a .w) l order) (whole-numbers (c .before .before .before .before .before .before .before .before .before .before))
-        ∙ rows-are (classed-here (c .before .before .before .before .before .before .before .before .before .before .before .before .before .before .before .before .before .before)) (numbered (c .before .before .before .before .before .before .before .before .before .before)) in
-    (b .0 ∙ ap (λ (rows : List (List ℕ)). length (bookBytes (frame (a .policy .now)) rows)) e,
-    b .1 ∙ ap (λ (rows : List (List ℕ)). written (bookBytes (frame (a .policy .now)) rows) (a .book .now)) e)
+    ∙ rows-are (classed-here (c .before .before .before .before .before .before .before .before .before .before .before .before .before .before .before .before .before .before)) (numbered (c .before .before .before .before .before .before .before .before .before .before)) in (
+      b .0 ∙ ap (λ (rows : List (List ℕ)). length (bookBytes (frame (a .policy .now)) rows)) e,
+      b .1 ∙ ap (λ (rows : List (List ℕ)). written (bookBytes (frame (a .policy .now)) rows) (a .book .now)) e,
+    )
 
 pub write-joined-spec : {M : Type 1} → statement M
 write-joined-spec =

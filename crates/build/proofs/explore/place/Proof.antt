@@ -34,7 +34,7 @@ add-result c = search needs
 
 -- src/explore.rt:48:13
 returns : tie.Need-returns Inv-loop μ-loop
-returns c = 
+returns c =
     let a = c .before .before .before .before .args in
     let l = c .before .before .before .loop in
     place-here (a .x) (a .found .now) (a .n) (l .i) (c .before .before .before .before .pre) (l .inv .1) (c .before .before .loop-test .taken) (c .if1 .taken)
@@ -53,7 +53,7 @@ loop-again c = (search needs, below-more _ _ (c .before .before .before .loop .i
 
 -- src/explore.rt:41:1
 returns-2 : tie.Need-returns-2 Inv-loop μ-loop
-returns-2 c = 
+returns-2 c =
     let a = c .before .before .args in
     let l = c .before .loop in
     place-nowhere (a .x) (a .found .now) (a .n) (l .i) (c .before .before .pre) (l .inv .1) (c .loop-test .left)

@@ -35,9 +35,10 @@ note-class-requires c κs =
     let p = c .before .before .before .before .before .before in
     let same = long p in
     let few = p .pre .0 .few in
-    let some = p .pre .0 .table .some in
-    ((omega arith, omega (arith, p .pre .1), omega arith, omega arith),
-    p .pre .2 ∙ numbers-none (length (p .args .classes .now)) ∙ ap (λ (size : ℕ). numbersBelow size []) (sym same))
+    let some = p .pre .0 .table .some in (
+      (omega arith, omega (arith, p .pre .1), omega arith, omega arith),
+      p .pre .2 ∙ numbers-none (length (p .args .classes .now)) ∙ ap (λ (size : ℕ). numbersBelow size []) (sym same),
+    )
 
 -- src/number.rt:69:5
 loop-holds : tie.Need-loop-holds Inv-loop μ-loop

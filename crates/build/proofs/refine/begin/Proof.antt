@@ -45,9 +45,12 @@ loop-again c =
     let p = c .before .before in
     let l = c .before .loop in
     let k = length (set (p .args .classes .now) 0 0) in
-    let long = one-class-length k (simp length-set (p .pre)) in
-    (omega arith, omega arith, simp length-set (simp length-set at (l .inv .2)),
-    fill-turn (oneClass k) (l .classes) (l .s) 1 (l .inv .3) (c .loop-test .taken) (omega arith) (one-class-at k (l .s) (l .inv .0) (omega arith)))
+    let long = one-class-length k (simp length-set (p .pre)) in (
+      omega arith,
+      omega arith,
+      simp length-set (simp length-set at (l .inv .2)),
+      fill-turn (oneClass k) (l .classes) (l .s) 1 (l .inv .3) (c .loop-test .taken) (omega arith) (one-class-at k (l .s) (l .inv .0) (omega arith)),
+    )
 
 -- src/refine.rt:81:1
 same-length : tie.Need-same-length Inv-loop μ-loop

@@ -58,10 +58,11 @@ loop-less c = omega arith
 loop-again : tie.Need-loop-again Inv-loop μ-loop
 loop-again c =
     let p = c .before .before .before .before .before .before .before .before .before in
-    let l = c .before .before .before .loop in
-    (omega arith,
-    search-passed (p .pre .0) (p .args .s) (p .pre .1 .0 .0) (p .pre .1 .0 .1) (p .args .next .now) (l .t) (l .inv .0) (c .before .before .loop-test .taken) (l .inv .1) (p .pre .1 .1)
-    (sym (c .before .is-first-alike .ensures) ∙ c .if1 .left))
+    let l = c .before .before .before .loop in (
+      omega arith,
+      search-passed (p .pre .0) (p .args .s) (p .pre .1 .0 .0) (p .pre .1 .0 .1) (p .args .next .now) (l .t) (l .inv .0) (c .before .before .loop-test .taken) (l .inv .1) (p .pre .1 .1)
+          (sym (c .before .is-first-alike .ensures) ∙ c .if1 .left),
+    )
 
 -- src/refine.rt:48:1
 returns-2 : tie.Need-returns-2 Inv-loop μ-loop

@@ -96,9 +96,10 @@ same-classes-requires c κs =
     let pt : 1 ≤ a .t = p .pre .1 .0 in
     let some : length (a .classes .now) - 1 < length (a .classes .now) = omega (arith, p .pre .1 .2) in
     let ps : 1 ≤ a .s = omega (arith, p .pre .1 .1) in
-    simp part-is-drop
-    ((rw length-drop (omega arith), rw length-drop (omega arith)),
-    (state-entries (p .pre .0 .table) (a .t) pt (omega (arith, p .pre .1 .1, p .pre .1 .2)) _ some, state-entries (p .pre .0 .table) (a .s) ps (omega (arith, p .pre .1 .2)) _ some))
+    simp part-is-drop (
+      (rw length-drop (omega arith), rw length-drop (omega arith)),
+      (state-entries (p .pre .0 .table) (a .t) pt (omega (arith, p .pre .1 .1, p .pre .1 .2)) _ some, state-entries (p .pre .0 .table) (a .s) ps (omega (arith, p .pre .1 .2)) _ some),
+    )
 
 -- src/refine.rt:30:1
 returns-3 : tie.Need-returns-3

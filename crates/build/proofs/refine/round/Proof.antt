@@ -64,9 +64,12 @@ loop-again c =
     let p = c .before .before .before .before .before .before .before in
     let a = p .args in
     let l = c .before .before .before .loop in
-    let long = next-length (p .pre .0) in
-    (omega arith, omega arith, simp length-set (l .inv .2),
-    fill-turn (nextRound (a .raw .now) (a .w) (a .classes .now)) (l .next) (l .s) (c .first-alike .result) (l .inv .3) (omega arith) (omega arith) (c .first-alike .ensures))
+    let long = next-length (p .pre .0) in (
+      omega arith,
+      omega arith,
+      simp length-set (l .inv .2),
+      fill-turn (nextRound (a .raw .now) (a .w) (a .classes .now)) (l .next) (l .s) (c .first-alike .result) (l .inv .3) (omega arith) (omega arith) (c .first-alike .ensures),
+    )
 
 -- src/refine.rt:65:1
 same-length : tie.Need-same-length Inv-loop μ-loop

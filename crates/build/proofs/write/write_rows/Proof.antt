@@ -135,12 +135,13 @@ loop-again c =
     let rows = numberedRows (a .raw .now) (a .w) (a .numbers .now) (a .order .now) in
     let f = fits (c .before .before .before .before .before .before .before) in
     let r = c .before .before .write-row in
-    let count = numbered-count (a .raw .now) (a .w) (a .numbers .now) (a .order .now) (p .pre .0 .0) (p .pre .0 .1) in
-    (omega arith,
-    laid-turn 12 (a .w) rows (a .book .now) (numbered-wide (a .raw .now) (a .w) (a .numbers .now) (a .order .now) (p .pre .0 .0) (p .pre .0 .1))
-    (l .i) (l .book) (r .last .0) (12 + l .i * a .w) (omega arith) (omega arith) (l .inv .1) refl
-    (numbered-part (a .raw .now) (a .w) (a .numbers .now) (a .order .now) (p .pre .0 .0) (p .pre .0 .1) (l .i) (c .before .before .before .before .before .wide .result) (r .last .0)
-    (drop (12 + l .i * a .w) (l .book)) (c .before .before .before .before .before .before .before .loop-test .taken) (c .before .before .before .before .before .wide .ensures .0) (simp part-is-drop at (r .ensures))))
+    let count = numbered-count (a .raw .now) (a .w) (a .numbers .now) (a .order .now) (p .pre .0 .0) (p .pre .0 .1) in (
+      omega arith,
+      laid-turn 12 (a .w) rows (a .book .now) (numbered-wide (a .raw .now) (a .w) (a .numbers .now) (a .order .now) (p .pre .0 .0) (p .pre .0 .1))
+          (l .i) (l .book) (r .last .0) (12 + l .i * a .w) (omega arith) (omega arith) (l .inv .1) refl
+          (numbered-part (a .raw .now) (a .w) (a .numbers .now) (a .order .now) (p .pre .0 .0) (p .pre .0 .1) (l .i) (c .before .before .before .before .before .wide .result) (r .last .0)
+          (drop (12 + l .i * a .w) (l .book)) (c .before .before .before .before .before .before .before .loop-test .taken) (c .before .before .before .before .before .wide .ensures .0) (simp part-is-drop at (r .ensures))),
+    )
 
 -- src/write.rt:27:1
 same-length : tie.Need-same-length Inv-loop μ-loop
