@@ -1,0 +1,39 @@
+//! The reference's answers, packed into the number that the C interface gives.
+
+use reference::entry::{self, Compared, RequestVerdict};
+use reference::refusal::Refusal;
+
+fn packed<T>(answer: Result<T, Refusal>, value: impl Fn(T) -> u64) -> u64 {
+    match answer {
+        Err(refusal) => refusal.number() as u64,
+        Ok(given) => 256 * value(given),
+    }
+}
+
+pub fn build(policy: &[u8], book: &mut [u8]) -> u64 {
+    packed(entry::build(policy, book), |length| length as u64)
+}
+
+pub fn verdict(book: &[u8], conflict: &mut [u8], missing: &mut [u8], blocked: &mut [u8]) -> u64 {
+    packed(entry::verdict(book, conflict, missing, blocked), |found| {
+        finding(found.conflict)
+            + (finding(found.missing) << 16)
+            + (found.blocked.map_or(0, |length| length as u64 + 1) << 32)
+    })
+}
+
+fn finding(found: Option<RequestVerdict>) -> u64 {
+    found.map_or(0, |found| {
+        found.length as u64 + 1 + ((found.request as u64) << 8)
+    })
+}
+
+pub fn compare(first: &[u8], second: &[u8], history: &mut [u8]) -> u64 {
+    packed(
+        entry::compare(first, second, history),
+        |compared| match compared {
+            Compared::Same => 0,
+            Compared::Differ(length) => length as u64,
+        },
+    )
+}

@@ -1,0 +1,204 @@
+//! Holds the proved library against the reference on generated inputs: the answers and every byte of the lent buffers.
+//!
+//!     differential [COUNT [SEED]]
+//!
+//! COUNT inputs of each call (20,000 if not given), from SEED on (1 if not given). One line for each call, with how often each refusal came;
+//! the first difference of a call is shown with the command that makes its input again. Exit status 1 if there is any.
+
+mod expected;
+mod library;
+
+use std::collections::BTreeMap;
+use std::process::ExitCode;
+
+use reference::generate::{self, Random};
+
+/// How one call was answered over all its inputs.
+#[derive(Default)]
+struct Tally {
+    inputs: u64,
+    differences: u64,
+    refusals: BTreeMap<u64, u64>,
+    longest: u64,
+}
+
+impl Tally {
+    /// Notes one input: what the library gave, what it should have given, and a name for the input.
+    fn note<T: PartialEq>(&mut self, given: (u64, T), wanted: (u64, T), input: &str) {
+        self.inputs += 1;
+        *self.refusals.entry(wanted.0 % 256).or_default() += 1;
+        self.longest = self.longest.max((wanted.0 / 256) & 0xFF);
+        if given.0 != wanted.0 || given.1 != wanted.1 {
+            if self.differences == 0 {
+                let buffers = if given.1 == wanted.1 {
+                    "equal"
+                } else {
+                    "different"
+                };
+                println!(
+                    "  {input}: answered {}, should be {}; buffers {buffers}",
+                    given.0, wanted.0
+                );
+            }
+            self.differences += 1;
+        }
+    }
+
+    fn print(&self, call: &str) {
+        let refusals: Vec<String> = self
+            .refusals
+            .iter()
+            .map(|(number, times)| format!("{number}: {times}"))
+            .collect();
+        println!(
+            "{call}: {} inputs, {} differences; refusals {}",
+            self.inputs,
+            self.differences,
+            refusals.join(", ")
+        );
+    }
+}
+
+/// A lent buffer: its bytes are anything, its length now and then too short, now and then longer than needed.
+fn lent(random: &mut Random, least: usize) -> Vec<u8> {
+    let length = match random.below(32) {
+        0 => random.below(least),
+        1 => least - 1,
+        2..=7 => least + random.below(64),
+        _ => least,
+    };
+    let first = random.below(256) as u8;
+    (0..length)
+        .map(|i| first.wrapping_add((i % 251) as u8))
+        .collect()
+}
+
+fn builds(count: u64, seed: u64) -> Tally {
+    let mut tally = Tally::default();
+    for i in seed..seed + count {
+        let kind = if i % 3 == 2 {
+            "damaged-policy"
+        } else {
+            "policy"
+        };
+        let policy = generate::one(kind, i).expect("a kind that the generator has");
+        let mut random = Random::new(i, "build's buffer");
+        let mut given = lent(&mut random, 17_284);
+        let mut wanted = given.clone();
+        let answers = (
+            library::build(&policy, &mut given),
+            expected::build(&policy, &mut wanted),
+        );
+        tally.note(
+            (answers.0, given),
+            (answers.1, wanted),
+            &format!("generate {kind} {i}"),
+        );
+    }
+    tally
+}
+
+/// The book of the policy of a seed, or a foreign or damaged book.
+fn some_book(i: u64) -> (&'static str, Vec<u8>) {
+    let kind = match i % 8 {
+        0..=2 => return ("the book of policy", built(&generate::policy(i))),
+        3..=5 => "book",
+        6 => "damaged-book",
+        _ => "late-finding-book",
+    };
+    (
+        kind,
+        generate::one(kind, i).expect("a kind that the generator has"),
+    )
+}
+
+fn built(policy: &[u8]) -> Vec<u8> {
+    let mut buffer = vec![0; 17_284];
+    match reference::entry::build(policy, &mut buffer) {
+        Ok(length) => buffer[..length].to_vec(),
+        Err(_) => Vec::new(),
+    }
+}
+
+fn verdicts(count: u64, seed: u64) -> Tally {
+    let mut tally = Tally::default();
+    for i in seed..seed + count {
+        let (kind, book) = some_book(i);
+        let mut random = Random::new(i, "verdict's buffers");
+        let mut given = [(); 3].map(|_| lent(&mut random, 128));
+        let mut wanted = given.clone();
+        let [a, b, c] = &mut given;
+        let first = library::verdict(&book, a, b, c);
+        let [a, b, c] = &mut wanted;
+        let second = expected::verdict(&book, a, b, c);
+        tally.note((first, given), (second, wanted), &format!("{kind} {i}"));
+    }
+    tally
+}
+
+/// Two books: of two related policies, foreign ones of one frame, ones that differ as late as they can, or faulty ones.
+fn some_pair(i: u64) -> (&'static str, Vec<u8>, Vec<u8>) {
+    match i % 8 {
+        0 | 1 => {
+            let (first, second) = generate::policy_pair(i);
+            ("the books of policy-pair", built(&first), built(&second))
+        }
+        2..=4 => pair("pair", generate::book_pair(i)),
+        5 => pair("longest-pair", generate::longest_pair(i)),
+        6 => pair("faulty-pair", generate::faulty_pair(i)),
+        _ => {
+            let book = generate::book(i);
+            ("book, twice,", book.clone(), book)
+        }
+    }
+}
+
+fn pair(kind: &'static str, books: (Vec<u8>, Vec<u8>)) -> (&'static str, Vec<u8>, Vec<u8>) {
+    (kind, books.0, books.1)
+}
+
+fn compares(count: u64, seed: u64) -> Tally {
+    let mut tally = Tally::default();
+    for i in seed..seed + count {
+        let (kind, first, second) = some_pair(i);
+        let mut random = Random::new(i, "compare's buffer");
+        let mut given = lent(&mut random, 256);
+        let mut wanted = given.clone();
+        let answers = (
+            library::compare(&first, &second, &mut given),
+            expected::compare(&first, &second, &mut wanted),
+        );
+        tally.note(
+            (answers.0, given),
+            (answers.1, wanted),
+            &format!("{kind} {i}"),
+        );
+    }
+    tally
+}
+
+fn number(word: Option<String>, otherwise: u64) -> Option<u64> {
+    word.map_or(Some(otherwise), |text| text.parse().ok())
+}
+
+fn main() -> ExitCode {
+    let mut words = std::env::args().skip(1);
+    let (Some(count), Some(seed)) = (number(words.next(), 20_000), number(words.next(), 1)) else {
+        eprintln!("usage: differential [COUNT [SEED]]");
+        return ExitCode::from(2);
+    };
+    println!("seeds {seed} to {}", seed + count - 1);
+    let tallies = [
+        ("build", builds(count, seed)),
+        ("verdict", verdicts(count, seed)),
+        ("compare", compares(count, seed)),
+    ];
+    for (call, tally) in &tallies {
+        tally.print(call);
+    }
+    println!("longest difference: {} codes", tallies[2].1.longest);
+    match tallies.iter().all(|(_, tally)| tally.differences == 0) {
+        true => ExitCode::SUCCESS,
+        false => ExitCode::FAILURE,
+    }
+}
