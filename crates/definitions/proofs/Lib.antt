@@ -14,3 +14,4 @@ pub mod Comparisons
 pub mod SameHistories
 pub mod Built
 pub mod Demands
+pub mod Calls

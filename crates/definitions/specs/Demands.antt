@@ -6,16 +6,17 @@ use mathlib.Core.Logic.{_↔_}
 use mathlib.Core.List.{List, [], _∷_, _++_}
 use mathlib.Core.Option.{Option, none, some}
 use Prim.Native.Nat.{ℕ, _+_, _*_, _≤_, _<_}
-use lib.ListN.{length, getD}
+use lib.ListN.{length, getD, take}
 use Rattle.automaton.specs.History.{History, Earliest}
 use Rattle.automaton.specs.Machine.{Machine, possible, inOne}
 use Rattle.definitions.specs.Policy as P
 use Rattle.definitions.specs.Situation.{acceptCode, rejectCode, policyMachine}
 use Rattle.definitions.specs.Book as B
 use Rattle.definitions.specs.Refusal.{bookRefusal}
-use Rattle.definitions.specs.Build.{bookOf}
+use Rattle.definitions.specs.Answer.{Answer, refused, given, written, historyBytes}
+use Rattle.definitions.specs.Build.{bookOf, buildAnswer, buildBuffer}
 use Rattle.definitions.specs.Verdict.{Found, conflict, missing, blocked}
-use Rattle.definitions.specs.Compare.{comparison}
+use Rattle.definitions.specs.Compare.{comparison, compareAnswer, compareBuffer}
 
 -- ---- what may happen after a history h in a machine m (a policy's or a book's) with E events and Q requests
 
@@ -92,6 +93,26 @@ pub record Demand3 (p q : List ℕ) : Type 0 where
   pub books : (bookOf p ≡ bookOf q) ↔ ((P.frame p ≡ P.frame q) × SameHistories (policyMachine p) (policyMachine q))
   -- "Comparing two books says same exactly then, and else shows the earliest history possible in just one"
   pub compared : P.frame p ≡ P.frame q → ComparisonIsRight (policyMachine p) (policyMachine q) (comparison (bookOf p) (bookOf q))
+
+-- ---- demand 3 over the calls: what build leaves in two buffers that row 1 lets pass, and what compare says of it
+
+-- "Its book is the first bytes of the buffer, as many as the length that build gives"
+abbrev pub bookIn : Answer ℕ → List ℕ → List ℕ
+bookIn (refused number) buffer = []
+bookIn (given n) buffer = take n buffer
+
+abbrev pub bookBuilt : List ℕ → List ℕ → List ℕ
+bookBuilt p buffer = bookIn (buildAnswer p buffer) (buildBuffer p buffer)
+
+-- b and d stand in the buffers after build was called on p and q; history is compare's buffer
+pub record BooksInBuffers (p q b d history : List ℕ) : Type 0 where
+  pub books : (b ≡ d) ↔ ((P.frame p ≡ P.frame q) × SameHistories (policyMachine p) (policyMachine q))
+  -- "Two built books of one frame are turned down by row 1 alone"
+  pub compared : P.frame p ≡ P.frame q → (answer : Option History) × (compareAnswer b d history ≡ given answer)
+      × (compareBuffer b d history ≡ written (historyBytes answer) history) × ComparisonIsRight (policyMachine p) (policyMachine q) answer
+
+abbrev pub Demand3OfCalls : List ℕ → List ℕ → List ℕ → List ℕ → List ℕ → Type 0
+Demand3OfCalls p q first second history = BooksInBuffers p q (bookBuilt p first) (bookBuilt q second) history
 
 -- ---- what verdict and compare owe for any books that rows 12 to 14 let pass, built here or not
 pub record VerdictIsRight (b : List ℕ) : Type 0 where

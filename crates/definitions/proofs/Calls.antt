@@ -1,0 +1,67 @@
+-- Demand 3 over the calls: the books that build leaves in two buffers, whatever these held, and what compare answers on them.
+use mathlib.Core.Path.{_≡_, refl, sym, ap, ap₂, _∙_, subst₂}
+use mathlib.Core.List.{List}
+use Prim.Native.Nat.{ℕ, _≤_}
+use lib.ListN.{length, drop}
+use lib.Seq.{take-at}
+use borrow.Author.Tests.{le-leb}
+use Rattle.automaton.proofs.Counting.{same-list-refl}
+use Rattle.definitions.specs.Answer.{given, answer, written, afterCall, historyBytes}
+use Rattle.definitions.specs.Book as B
+use Rattle.definitions.specs.Refusal.{Accepted, bookRefusal, row15}
+use Rattle.definitions.specs.Build.{bookOf, buildRefusal, buildAnswer, buildBuffer}
+use Rattle.definitions.specs.Compare.{comparison, compareRefusal, compareAnswer, compareBuffer}
+use Rattle.definitions.specs.Demands.{bookIn, bookBuilt, BooksInBuffers, Demand3OfCalls}
+use Rattle.definitions.proofs.Built.{built-passes, frames-same}
+use Rattle.definitions.proofs.Demands.{demand3}
+
+-- ---- build
+module _ (p buffer : List ℕ) (accepted : Accepted p) (long : 17284 ≤ length buffer) where
+  build-passes : buildRefusal p buffer ≡ 0
+  unfolding buildRefusal
+  build-passes = rw (le-leb 17284 (length buffer) long) accepted
+
+  answer-given : buildAnswer p buffer ≡ given (length (bookOf p))
+  unfolding buildAnswer
+  answer-given = ap (λ (number : ℕ). answer number (length (bookOf p))) build-passes
+
+  buffer-written : buildBuffer p buffer ≡ written (bookOf p) buffer
+  unfolding buildBuffer
+  buffer-written = ap (λ (number : ℕ). afterCall number (bookOf p) buffer) build-passes
+
+  -- what stands in the buffer is the book of the policy
+  pub book-built : bookBuilt p buffer ≡ bookOf p
+  book-built = ap₂ bookIn answer-given buffer-written ∙ take-at (bookOf p) (drop (length (bookOf p)) buffer) (length (bookOf p)) refl
+
+-- ---- compare
+module _ (b d history : List ℕ) (first : bookRefusal b ≡ 0) (second : bookRefusal d ≡ 0) (frames : B.frame b ≡ B.frame d) (long : 256 ≤ length history) where
+  frames-pass : row15 b d ≡ 0
+  unfolding row15
+  frames-pass = rw (frames, same-list-refl (B.frame d))
+
+  compare-passes : compareRefusal b d history ≡ 0
+  unfolding compareRefusal
+  compare-passes = rw (le-leb 256 (length history) long, first, second) frames-pass
+
+  compare-given : compareAnswer b d history ≡ given (comparison b d)
+  unfolding compareAnswer
+  compare-given = ap (λ (number : ℕ). answer number (comparison b d)) compare-passes
+
+  compare-written : compareBuffer b d history ≡ written (historyBytes (comparison b d)) history
+  unfolding compareBuffer
+  compare-written = ap (λ (number : ℕ). afterCall number (historyBytes (comparison b d)) history) compare-passes
+
+pub demand3-of-calls : (p q first second history : List ℕ) → Accepted p → Accepted q → 17284 ≤ length first → 17284 ≤ length second → 256 ≤ length history
+    → Demand3OfCalls p q first second history
+demand3-of-calls p q first second history one two long-first long-second long =
+    subst₂ (λ (b d : List ℕ). BooksInBuffers p q b d history) (sym (book-built p first one long-first)) (sym (book-built q second two long-second))
+    (record {
+      books = demand3 p q one two .books;
+      compared = λ frames.
+          let same = frames-same p q one two frames in (
+            comparison (bookOf p) (bookOf q),
+            compare-given (bookOf p) (bookOf q) history (built-passes p one) (built-passes q two) same long,
+            compare-written (bookOf p) (bookOf q) history (built-passes p one) (built-passes q two) same long,
+            demand3 p q one two .compared frames,
+          );
+    })
