@@ -2,7 +2,7 @@
  * policybook.h: policies, their books, findings and comparison, for C.
  *
  * The three functions are proved: for every input they end, read and write only what is lent to them, and answer as docs/C-INTERFACE.md says.
- * They keep no state, allocate nothing, and may be called from several threads at once. A call needs about 200 kB of stack.
+ * They keep no state, allocate nothing, and may be called from several threads at once. A call needs about 128 kB of stack.
  *
  * Every function answers one number. Modulo 256 it is the number of a refusal, 0 where nothing is refused; divided by 256 it is the value.
  * A call that is refused leaves every buffer as it was. Buffers must not overlap with each other or with what is read.

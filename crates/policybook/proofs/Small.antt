@@ -1,0 +1,108 @@
+-- How large the numbers of document 01's answers are: what makes each fit into its bits of a packed number.
+use mathlib.Core.Path.{_≡_}
+use mathlib.Core.Bool.{Bool, true, false, _&&_}
+use mathlib.Core.List.{List}
+use mathlib.Core.Option.{some}
+use Prim.Native.Nat.{ℕ, _≤_, _<_}
+use native.Mathlib.Nat.{mul-le-mul}
+use native.Mathlib.Omega.{arith}
+use lib.Dec.{leb, eqb}
+use lib.ListN.{length}
+use Rattle.automaton.specs.Below.{sameList}
+use Rattle.automaton.specs.History.{History}
+use Rattle.definitions.specs.Answer.{judge, thenJudge}
+use Rattle.definitions.specs.Bytes.{hasMark, hasVersion1}
+use Rattle.definitions.specs.Policy.{exactLength}
+use Rattle.definitions.specs.Valuation.{valuations}
+use Rattle.definitions.specs.Book.{frame}
+use Rattle.definitions.specs.Refusal.{rangesHold, countsHold, masksHold, valuesHold, row10, row9, row8, row7, row6, row5, row4, row3, fileRefusal, situations, row11, policyRefusal, Accepted, layoutHolds, entriesHold, row14, row13, bookRefusal, row15}
+use Rattle.definitions.specs.Build.{bookOf, buildRefusal}
+use Rattle.definitions.specs.Verdict.{Found, conflict, missing, blocked, verdictRefusal}
+use Rattle.definitions.specs.Compare.{comparison, compareRefusal}
+use Rattle.definitions.specs.Demands.{VerdictIsRight}
+use Rattle.definitions.proofs.Accepted.{BookLayout, book-passed}
+use Rattle.definitions.proofs.Demands.{demand2, verdict-right, compare-right}
+
+-- ---- a book has at most 17,284 bytes
+pub book-small : (p : List ℕ) → Accepted p → length (bookOf p) ≤ 17284
+book-small p accepted =
+    let right = demand2 p accepted in
+    let layout = book-passed (bookOf p) .0 (right .passes) .layout in
+    omega (arith, right .size, mul-le-mul (layout .statesMost) (layout .widthMost))
+
+-- ---- a finding's history has fewer codes than the book has states, and its request is one of the book's
+abbrev pub SmallFound : Found → Type 0
+SmallFound t = (length (t .history) < 127) × (t .request < 64)
+
+module _ (b : List ℕ) (passes : bookRefusal b ≡ 0) where
+  layout : BookLayout b
+  layout = book-passed b .0 passes .layout
+
+  right : VerdictIsRight b
+  right = verdict-right b passes
+
+  pub conflict-small : (t : Found) → conflict b ≡ some t → SmallFound t
+  conflict-small t e =
+      (omega (arith, right .conflict-short t e, layout .statesMost), omega (arith, right .findings .conflict-right .request t e .0, layout .requestsMost))
+
+  pub missing-small : (t : Found) → missing b ≡ some t → SmallFound t
+  missing-small t e =
+      (omega (arith, right .missing-short t e, layout .statesMost), omega (arith, right .findings .missing-right .request t e .0, layout .requestsMost))
+
+  pub blocked-small : (h : History) → blocked b ≡ some h → length h < 127
+  blocked-small h e = omega (arith, right .blocked-short h e, layout .statesMost)
+
+-- ---- a difference has fewer codes than the two books have states
+pub comparison-small : (b d : List ℕ) → bookRefusal b ≡ 0 → bookRefusal d ≡ 0 → frame b ≡ frame d → (h : History) → comparison b d ≡ some h → length h < 254
+comparison-small b d first second frames h e =
+    omega (arith, compare-right b d first second frames .short h e .1, book-passed b .0 first .layout .statesMost, book-passed d .0 second .layout .statesMost)
+
+-- ---- a refusal's number is at most 15
+judge-small : (number : ℕ) (passes : Bool) (later : ℕ) → number ≤ 15 → later ≤ 15 → judge number passes later ≤ 15
+judge-small number true later l m = m
+judge-small number false later l m = l
+
+then-small : (first later : ℕ) → first ≤ 15 → later ≤ 15 → thenJudge first later ≤ 15
+then-small first later l m = judge-small first (eqb first 0) later l m
+
+file-refusal-small : (p : List ℕ) → fileRefusal p ≤ 15
+unfolding fileRefusal row3 row4 row5 row6 row7 row8 row9 row10
+file-refusal-small p =
+    judge-small 2 (leb 9 (length p)) (row3 p) (omega arith)
+    (judge-small 3 (hasMark 0x50 0x4F 0x4C p) (row4 p) (omega arith)
+    (judge-small 4 (hasVersion1 p) (row5 p) (omega arith)
+    (judge-small 5 (rangesHold p) (row6 p) (omega arith)
+    (judge-small 6 (eqb (length p) (exactLength p)) (row7 p) (omega arith)
+    (judge-small 7 (countsHold p) (row8 p) (omega arith)
+    (judge-small 8 (masksHold p) (row9 p) (omega arith)
+    (judge-small 9 (valuesHold p) (row10 p) (omega arith)
+    (judge-small 10 (leb (valuations p) 64) 0 (omega arith) (omega arith)))))))))
+
+policy-refusal-small : (p : List ℕ) → policyRefusal p ≤ 15
+unfolding policyRefusal row11
+policy-refusal-small p =
+    then-small (fileRefusal p) (row11 p) (file-refusal-small p) (judge-small 11 (leb (length (situations p)) 127) 0 (omega arith) (omega arith))
+
+book-refusal-small : (b : List ℕ) → bookRefusal b ≤ 15
+unfolding bookRefusal row13 row14
+book-refusal-small b =
+    judge-small 12 (leb 12 (length b) && hasMark 0x42 0x4F 0x4B b && hasVersion1 b) (row13 b) (omega arith)
+    (judge-small 13 (layoutHolds b) (row14 b) (omega arith)
+    (judge-small 14 (entriesHold b) 0 (omega arith) (omega arith)))
+
+pub build-refusal-small : (p buffer : List ℕ) → buildRefusal p buffer ≤ 15
+unfolding buildRefusal
+build-refusal-small p buffer = judge-small 1 (leb 17284 (length buffer)) (policyRefusal p) (omega arith) (policy-refusal-small p)
+
+pub verdict-refusal-small : (b x y z : List ℕ) → verdictRefusal b x y z ≤ 15
+unfolding verdictRefusal
+verdict-refusal-small b x y z =
+    judge-small 1 (leb 128 (length x) && leb 128 (length y) && leb 128 (length z)) (bookRefusal b) (omega arith) (book-refusal-small b)
+
+pub compare-refusal-small : (b d buffer : List ℕ) → compareRefusal b d buffer ≤ 15
+unfolding compareRefusal row15
+compare-refusal-small b d buffer =
+    judge-small 1 (leb 256 (length buffer)) (thenJudge (bookRefusal b) (thenJudge (bookRefusal d) (row15 b d))) (omega arith)
+    (then-small (bookRefusal b) (thenJudge (bookRefusal d) (row15 b d)) (book-refusal-small b)
+    (then-small (bookRefusal d) (row15 b d) (book-refusal-small d)
+    (judge-small 15 (sameList (frame b) (frame d)) 0 (omega arith) (omega arith))))

@@ -1,0 +1,48 @@
+// The library for C: build, verdict and compare on byte slices, each answer packed into one number.
+ghost use mathlib.Core.Path.{_≡_};
+ghost use Rattle.definitions.specs.Build.{buildAnswer, buildBuffer};
+ghost use Rattle.definitions.specs.Verdict.{verdictAnswer, verdictBuffers};
+ghost use Rattle.definitions.specs.Compare.{compareAnswer, compareBuffer};
+ghost use Rattle.verdict.specs.Answer.{buffersAfter};
+ghost use Rattle.policybook.specs.Packing.{packed, bookLength, findingsValue, historyLength};
+
+mod packing;
+
+use packing::pack_build;
+use packing::pack_compare;
+use packing::pack_verdict;
+
+// Builds the book of a policy. The value is the book's length. The book goes to the front of the buffer; the bytes after it stay, and on a refusal all of them.
+#[no_mangle]
+pub extern "C" fn policybook_build(policy: &[u8], book: &mut [u8]) -> u64
+    ensures { λ r. ⌜ r ≡ packed bookLength (buildAnswer (now (policy .entry)) (now (book .entry))) ⌝ }
+    ensures { λ r. ⌜ now (book .exit) ≡ buildBuffer (now (policy .entry)) (now (book .entry)) ⌝ }
+{
+    pack_build(build::build(policy, book))
+}
+
+// The findings on a book. The value tells conflict, missing and blocked, from bits 0, 16 and 32 on. The history of each that is found goes to the front of its
+// buffer; the bytes after it stay, and so does all of the buffer of a finding that is none, and all of each on a refusal.
+#[no_mangle]
+pub extern "C" fn policybook_verdict(
+    book: &[u8],
+    conflict: &mut [u8],
+    missing: &mut [u8],
+    blocked: &mut [u8],
+) -> u64
+    ensures { λ r. ⌜ r ≡ packed findingsValue (verdictAnswer (now (book .entry)) (now (conflict .entry)) (now (missing .entry)) (now (blocked .entry))) ⌝ }
+    ensures { λ r. ⌜ buffersAfter (now (conflict .exit)) (now (missing .exit)) (now (blocked .exit))
+        ≡ verdictBuffers (now (book .entry)) (now (conflict .entry)) (now (missing .entry)) (now (blocked .entry)) ⌝ }
+{
+    pack_verdict(verdict::verdict(book, conflict, missing, blocked))
+}
+
+// Compares two books. The value is the length of the earliest history that is possible in just one, which goes to the front of the buffer, and 0 where the
+// same histories are possible in both. The bytes after the history stay, and on a refusal or on same all of them.
+#[no_mangle]
+pub extern "C" fn policybook_compare(first: &[u8], second: &[u8], history: &mut [u8]) -> u64
+    ensures { λ r. ⌜ r ≡ packed historyLength (compareAnswer (now (first .entry)) (now (second .entry)) (now (history .entry))) ⌝ }
+    ensures { λ r. ⌜ now (history .exit) ≡ compareBuffer (now (first .entry)) (now (second .entry)) (now (history .entry)) ⌝ }
+{
+    pack_compare(compare::compare(first, second, history))
+}

@@ -1,0 +1,90 @@
+// Answers packed into one number. A history's length is told, and the contract holds for every buffer that has room for that history.
+ghost use mathlib.Core.Path.{_≡_};
+ghost use mathlib.Core.List.{List};
+ghost use Prim.Native.Nat.{ℕ, _*_, _^_, _<_};
+ghost use lib.ListN.{length};
+ghost use Rattle.build.specs.Built.{builtAnswer};
+ghost use Rattle.verdict.specs.Answer.{foundOf, blockedOf, judgedAnswer};
+ghost use Rattle.compare.specs.Answer.{comparedAnswer};
+ghost use Rattle.policybook.specs.Packing.{packed, bookLength, blockedValue, foundValue, findingsValue, historyLength};
+ghost use Rattle.policybook.specs.Within.{BuiltWithin, BlockedWithin, FindingWithin, FindingsWithin, JudgedWithin, ComparedWithin};
+use build::Built;
+use compare::Compared;
+use verdict::Blocked;
+use verdict::Finding;
+use verdict::Findings;
+use verdict::Judged;
+
+// The number for what build answers.
+pub fn pack_build(built: Built) -> u64
+    requires { ⌜ BuiltWithin 17284 built ⌝ }
+    ensures { λ r. ⌜ r ≡ packed bookLength (builtAnswer built) ⌝ }
+{
+    match built {
+        Built::Refused(number) => number as u64,
+        Built::Written(length) => 256 * (length as u64),
+    }
+}
+
+// The bits for blocked: 0 for none, else one more than the length of its history.
+fn blocked_value(blocked: Blocked) -> u64
+    requires { ⌜ BlockedWithin 128 blocked ⌝ }
+    ensures { λ r. ⌜ ((buffer : List ℕ) → BlockedWithin (length buffer) blocked → r ≡ blockedValue (blockedOf blocked buffer)) ⌝ }
+    ensures { λ r. ⌜ r < 2 ^ 8 ⌝ }
+{
+    match blocked {
+        Blocked::None => 0,
+        Blocked::After { length } => length as u64 + 1,
+    }
+}
+
+// The bits for conflict or missing: the same, and the request in the next eight.
+fn finding_value(finding: Finding) -> u64
+    requires { ⌜ FindingWithin 128 finding ⌝ }
+    ensures { λ r. ⌜ ((buffer : List ℕ) → FindingWithin (length buffer) finding → r ≡ foundValue (foundOf finding buffer)) ⌝ }
+    ensures { λ r. ⌜ r < 2 ^ 16 ⌝ }
+{
+    match finding {
+        Finding::None => 0,
+        Finding::Found { request, length } => length as u64 + 1 + 256 * (request as u64),
+    }
+}
+
+// The three findings in one value; x, y and z stand for the buffers of conflict, missing and blocked.
+fn findings_value(findings: Findings) -> u64
+    requires { ⌜ FindingsWithin 128 128 128 findings ⌝ }
+    ensures { λ r. ⌜ ((x y z : List ℕ) → FindingsWithin (length x) (length y) (length z) findings
+        → 256 * r ≡ packed findingsValue (judgedAnswer (Judged.Given findings) x y z)) ⌝ }
+    ensures { λ r. ⌜ r < 2 ^ 40 ⌝ }
+{
+    let conflict = findings.conflict;
+    let missing = findings.missing;
+    let blocked = findings.blocked;
+    let first = finding_value(conflict);
+    let second = 65536 * finding_value(missing);
+    let third = 4294967296 * blocked_value(blocked);
+    first + second + third
+}
+
+// The number for what verdict answers.
+pub fn pack_verdict(judged: Judged) -> u64
+    requires { ⌜ JudgedWithin 128 128 128 judged ⌝ }
+    ensures { λ r. ⌜ ((x y z : List ℕ) → JudgedWithin (length x) (length y) (length z) judged → r ≡ packed findingsValue (judgedAnswer judged x y z)) ⌝ }
+{
+    match judged {
+        Judged::Refused(number) => number as u64,
+        Judged::Given(findings) => 256 * findings_value(findings),
+    }
+}
+
+// The number for what compare answers.
+pub fn pack_compare(compared: Compared) -> u64
+    requires { ⌜ ComparedWithin 256 compared ⌝ }
+    ensures { λ r. ⌜ ((buffer : List ℕ) → ComparedWithin (length buffer) compared → r ≡ packed historyLength (comparedAnswer compared buffer)) ⌝ }
+{
+    match compared {
+        Compared::Refused(number) => number as u64,
+        Compared::Same => 0,
+        Compared::Differ(length) => 256 * (length as u64),
+    }
+}
