@@ -1,3 +1,2 @@
 pub mod Entries
 pub mod Passed
-pub mod Walk

@@ -7,7 +7,7 @@ ghost use Rattle.automaton.specs.Below.{placeOf};
 ghost use Rattle.definitions.specs.Answer.{written};
 ghost use Rattle.build.specs.Images.{withImageAt, imageOfSetIn, imagesMachine};
 ghost use Rattle.build.specs.States.{states, numberAmong, withState, Visited, Reaches};
-use policy::situation::Situation;
+use situation::Situation;
 
 // `found`, and the valuations that code `c` leads to from `v` if `v` is in the situation.
 fn with_image(

@@ -15,3 +15,4 @@ pub mod SameHistories
 pub mod Built
 pub mod Demands
 pub mod Calls
+pub mod Texts

@@ -4,5 +4,6 @@ pub mod Samples
 pub mod Document
 pub mod Khoumsi
 pub mod Refusals
+pub mod Limits
 pub mod Calls
 pub mod Table

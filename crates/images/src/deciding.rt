@@ -4,7 +4,7 @@ ghost use Prim.Native.Nat.{_+_, _*_, _<_, _≤_};
 ghost use lib.ListN.{length, getD};
 ghost use Rattle.images.specs.Tables.{Filled};
 ghost use Rattle.images.specs.Images.{Small, withGreatest, greatest, withChosen, chosenBy, chosenFor};
-use policy::situation::Situation;
+use situation::Situation;
 
 fn with_greatest(lets: &[bool], ranks: &[usize], k: usize, best: usize) -> usize
     requires { ⌜ (k < length (now lets)) × (k < length (now ranks)) ⌝ }

@@ -16,7 +16,7 @@ ghost use Rattle.images.specs.Images.{ruleDecision, ruleRank, ruleTarget
 use policy::header;
 use policy::record;
 use policy::shape::Shape;
-use policy::situation::Situation;
+use situation::Situation;
 
 // Entry k is the decision of rule k. What follows the entry of the last rule stays.
 fn fill_decisions(policy: &[u8], table: &[u8], decisions: &mut [usize])

@@ -1,4 +1,3 @@
-pub mod Bits
 pub mod Products
 pub mod Parts
 pub mod Checked

@@ -1,11 +1,10 @@
-// Reading a policy file: situations, the refusals of rows 2 to 10, the numbers of the file.
+// Reading a policy file: the refusals of rows 2 to 10, the numbers of the file.
 pub mod counts;
 pub mod header;
 mod layout;
 mod masks;
 pub mod record;
 pub mod shape;
-pub mod situation;
 pub mod valuation;
 mod values;
 

@@ -1,6 +1,5 @@
 -- The example of each row of document 01's "Where input is turned down" and the order in which rows are judged.
 use mathlib.Core.List.{List, [], _∷_, _++_}
-use Prim.Native.Nat.{ℕ}
 use lib.ListN.{set, take}
 use Rattle.definitions.specs.Answer.{refused}
 use Rattle.definitions.specs.Refusal.{policyRefusal, bookRefusal}
@@ -9,15 +8,7 @@ use Rattle.definitions.specs.Verdict.{verdictAnswer}
 use Rattle.definitions.specs.Compare.{compareAnswer}
 use Rattle.definitions.specs.Opened.{openAnswer, tellAnswer, stepRefusal}
 use Rattle.definitions.specs.Cases.Claim.{Claim, number, builds, finds, compares, tells}
-use Rattle.definitions.specs.Cases.Samples.{policyA, policyH, bookA, lent}
-
--- two fields of a and b values, one rule
-abbrev twoFields : ℕ → ℕ → List ℕ
-twoFields a b = 0x50 ∷ 0x4F ∷ 0x4C ∷ 0 ∷ 1 ∷ 0 ∷ 2 ∷ 0 ∷ 1 ∷ a ∷ b ∷ 0 ∷ 1 ∷ 0 ∷ 1 ∷ 1 ∷ 0 ∷ []
-
--- two variables, each tested with n and never changed
-abbrev twoBounds : ℕ → List ℕ
-twoBounds n = 0x50 ∷ 0x4F ∷ 0x4C ∷ 0 ∷ 1 ∷ 0 ∷ 1 ∷ 2 ∷ 1 ∷ 1 ∷ 0 ∷ 1 ∷ 1 ∷ 0 ∷ 0 ∷ n ∷ 0 ∷ 0 ∷ n ∷ 0 ∷ []
+use Rattle.definitions.specs.Cases.Samples.{policyA, policyH, bookA, twoFields, twoBounds, lent}
 
 abbrev pub refusalCases : List Claim
 refusalCases =
@@ -39,8 +30,8 @@ refusalCases =
     ∷ number (policyRefusal (twoFields 8 8)) 0
     ∷ number (policyRefusal (set policyA 11 4)) 8
     ∷ number (policyRefusal (set policyA 16 3)) 9
-    ∷ number (policyRefusal (twoBounds 8)) 10
-    ∷ number (policyRefusal (twoBounds 7)) 0
+    ∷ number (policyRefusal (twoBounds 8 8)) 10
+    ∷ number (policyRefusal (twoBounds 7 7)) 0
     -- "The lowest row that fits wins"
     ∷ number (policyRefusal (set (set policyA 16 3) 11 4)) 8
     ∷ number (policyRefusal (set (policyA ++ (0 ∷ [])) 4 0)) 4

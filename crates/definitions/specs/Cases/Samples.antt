@@ -58,6 +58,14 @@ policyS n = policy 0 1 3 (2 ∷ ruleOf 3 1 0 0 1 0 ++ ruleOf 1 1 0 0 1 1 ++ rule
 abbrev pub policyL : List ℕ
 policyL = policy 0 1 3 (1 ∷ ruleOf 1 1 1 0 1 0 ++ ruleOf 1 1 0 0 1 1 ++ ruleOf 1 0 0 1 0 0)
 
+-- two fields of a and b values, one rule
+abbrev pub twoFields : ℕ → ℕ → List ℕ
+twoFields a b = 0x50 ∷ 0x4F ∷ 0x4C ∷ 0 ∷ 1 ∷ 0 ∷ 2 ∷ 0 ∷ 1 ∷ a ∷ b ∷ 0 ∷ 1 ∷ 0 ∷ 1 ∷ 1 ∷ 0 ∷ []
+
+-- two variables, tested with a and b and never changed
+abbrev pub twoBounds : ℕ → ℕ → List ℕ
+twoBounds a b = policy 0 2 1 (1 ∷ 0 ∷ 1 ∷ 1 ∷ 0 ∷ 0 ∷ a ∷ 0 ∷ 0 ∷ b ∷ 0 ∷ [])
+
 abbrev pub bookA : List ℕ
 bookA =
     0x42 ∷ 0x4F ∷ 0x4B ∷ 0 ∷ 1 ∷ 1 ∷ 1 ∷ 2 ∷ 0 ∷ 0 ∷ 0 ∷ 3

@@ -4,7 +4,8 @@ use Rattle.definitions.specs.Cases.Claim.{Claim}
 use Rattle.definitions.specs.Cases.Document.{documentCases}
 use Rattle.definitions.specs.Cases.Khoumsi.{khoumsiCases}
 use Rattle.definitions.specs.Cases.Refusals.{refusalCases}
+use Rattle.definitions.specs.Cases.Limits.{limitCases}
 use Rattle.definitions.specs.Cases.Calls.{callCases}
 
 abbrev pub cases : List Claim
-cases = documentCases ++ khoumsiCases ++ refusalCases ++ callCases
+cases = documentCases ++ khoumsiCases ++ refusalCases ++ limitCases ++ callCases

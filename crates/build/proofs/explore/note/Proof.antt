@@ -8,7 +8,7 @@ use Rattle.build.proofs.explore.note.Tie as tie
 use Rattle.build.proofs.explore.note.Reads as reads
 use Rattle.build.proofs.explore.note.Lts as lts
 use Rattle.build.proofs.explore.place.Reads as place-reads
-use Rattle.policy.proofs.situation.Situation.is_empty.Reads as is-empty-reads
+use Rattle.situation.proofs.Situation.is_empty.Reads as is-empty-reads
 
 -- src/explore.rt:60:8
 is-empty-requires : tie.Need-is-empty-requires

@@ -6,8 +6,8 @@ use Rattle.build.proofs.explore.with_image.Statement.{statement}
 use Rattle.build.proofs.explore.with_image.Tie as tie
 use Rattle.build.proofs.explore.with_image.Reads as reads
 use Rattle.build.proofs.explore.with_image.Lts as lts
-use Rattle.policy.proofs.situation.Situation.has.Reads as has-reads
-use Rattle.policy.proofs.situation.Situation.plus.Reads as plus-reads
+use Rattle.situation.proofs.Situation.has.Reads as has-reads
+use Rattle.situation.proofs.Situation.plus.Reads as plus-reads
 
 -- src/explore.rt:17:8
 has-requires : tie.Need-has-requires

@@ -6,7 +6,7 @@ use borrow.Author.Tests.{le-leb, lt-leb}
 use borrow.Author.Needs.{needs}
 use Rattle.definitions.specs.Policy.{mask}
 use Rattle.policy.proofs.Rows.{and-last}
-use Rattle.policy.proofs.Bits.{one-shifted}
+use Rattle.situation.proofs.Bits.{one-shifted}
 use Rattle.policy.proofs.Checked.{count-in-range}
 use Rattle.policy.proofs.masks.mask_holds.Statement.{statement}
 use Rattle.policy.proofs.masks.mask_holds.Tie as tie

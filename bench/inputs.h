@@ -1,0 +1,45 @@
+/* inputs.h: the policies and books that are measured. */
+#ifndef INPUTS_H
+#define INPUTS_H
+
+#include <stddef.h>
+#include <stdint.h>
+
+enum { POLICY_ROOM = 1024, BOOK_ROOM = 17284 };
+
+struct bytes {
+    size_t length;
+    uint8_t at[BOOK_ROOM];
+};
+
+/* Case S of the contract: 64 situations, one state, 4 codes. */
+void case_s(struct bytes *policy);
+
+/* A reading room's policy with two counters: 40 situations, 40 states, 26 codes. */
+void forty_states(struct bytes *policy);
+
+/*
+ * 2 × top + 1 situations and as many states, for top from 2 to 63: the sets {k} and {k, k + 1}. Requests have two fields, of `high` values (an even
+ * number) and of `low`; `events` is how many events there are, `rules` how many rules, 5 or more.
+ */
+void many_states(struct bytes *policy, unsigned top, unsigned events, unsigned high, unsigned low, unsigned rules);
+
+/* The same book but for one entry, which stands as late as possible in the search. */
+void late_difference(const struct bytes *book, struct bytes *other);
+
+/* The same book with other numbers for the states but 1. */
+void renumbered(const struct bytes *book, struct bytes *other);
+
+/*
+ * Two books of 127 states and 136 codes whose earliest difference has 253 codes, the most there can be. If they are full, every request is accepted in every
+ * state; else only the codes that the difference needs are possible.
+ */
+void farthest_pair(struct bytes *first, struct bytes *second, int full);
+
+/* Two books of 127 and 126 states and 136 codes with the same histories, in which every pair of states is reached. */
+void all_pairs(struct bytes *first, struct bytes *second);
+
+/* A book of 127 states and 136 codes whose findings come only after 126 codes. */
+void late_findings(struct bytes *book);
+
+#endif

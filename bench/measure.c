@@ -1,0 +1,156 @@
+/* measure.c: the tables of docs/MEASUREMENTS.md, in Markdown. Usage: measure jobs, or measure growth */
+#include "jobs.h"
+
+#include <stdio.h>
+#include <string.h>
+
+static void print_time(double nanoseconds)
+{
+    double t = nanoseconds / 1000;
+    printf(t < 1 ? " %.3f |" : t < 10 ? " %.2f |" : t < 100 ? " %.1f |" : " %.0f |", t);
+}
+
+static void print_ratio(double ratio) { printf(ratio < 10 ? " %.2f |" : " %.0f |", ratio); }
+
+static void print_row(const char *job, const char *input, const struct result *r)
+{
+    printf("| %s | %s |", job, input);
+    print_time(r->nanoseconds[LIBRARY]);
+    print_time(r->nanoseconds[PLAIN]);
+    print_ratio(1 / r->ratio[PLAIN]);
+    if (r->nanoseconds[OPENFST] == 0) {
+        printf(" - | - |\n");
+        return;
+    }
+    print_time(r->nanoseconds[OPENFST]);
+    print_ratio(r->ratio[OPENFST]);
+    printf("\n");
+    fflush(stdout);
+}
+
+/* The book that build gave last becomes the first book. */
+static void take_book(struct job *j)
+{
+    j->first.length = j->written.answer / 256;
+    memcpy(j->first.at, j->written.book, j->first.length);
+}
+
+/* All jobs of a policy: its book, the verdict on it, and the book beside itself and beside one with a late difference. */
+static void policy_rows(const char *input, struct job *j)
+{
+    struct result r;
+    measure_build(j, &r);
+    print_row("build", input, &r);
+    take_book(j);
+    measure_verdict(j, &r);
+    print_row("verdict", input, &r);
+    j->second = j->first;
+    measure_compare(j, &r);
+    print_row("compare, same", input, &r);
+    late_difference(&j->first, &j->second);
+    measure_compare(j, &r);
+    print_row("compare, one entry differs", input, &r);
+}
+
+static void book_rows(struct job *j)
+{
+    struct result r;
+    late_findings(&j->first);
+    measure_verdict(j, &r);
+    print_row("verdict, late findings", "books 127 × 136", &r);
+    renumbered(&j->first, &j->second);
+    measure_compare(j, &r);
+    print_row("compare, same, other numbers", "books 127 × 136", &r);
+    farthest_pair(&j->first, &j->second, 1);
+    measure_compare(j, &r);
+    print_row("compare, 253 codes, full rows", "books 127 × 136", &r);
+    farthest_pair(&j->first, &j->second, 0);
+    measure_compare(j, &r);
+    print_row("compare, 253 codes, rows of 10", "books 127 × 136", &r);
+    all_pairs(&j->first, &j->second);
+    measure_compare(j, &r);
+    print_row("compare, all pairs reached", "books 127 × 136", &r);
+}
+
+static void equal_bytes_rows(struct job *j)
+{
+    struct result r;
+    late_findings(&j->first);
+    j->second = j->first;
+    measure_equal_bytes(j, &r);
+    print_row("equal bytes, equal", "books 127 × 136", &r);
+    late_difference(&j->first, &j->second);
+    measure_equal_bytes(j, &r);
+    print_row("equal bytes, last differs", "books 127 × 136", &r);
+}
+
+static void print_jobs(struct job *j)
+{
+    printf("| job | input | library, µs | plain C, µs | library / plain C | OpenFst, µs | OpenFst / library |\n|---|---|---:|---:|---:|---:|---:|\n");
+    case_s(&j->policy);
+    policy_rows("case S", j);
+    forty_states(&j->policy);
+    policy_rows("40 states", j);
+    many_states(&j->policy, 63, 8, 16, 4, 5);
+    policy_rows("127 states, 136 codes", j);
+    book_rows(j);
+    equal_bytes_rows(j);
+}
+
+/* One row of a table of growth: the number that grows, then time and ratio of build, verdict and compare. */
+static void growth_row(unsigned number, struct job *j)
+{
+    struct result r;
+    printf("| %u |", number);
+    measure_build(j, &r);
+    print_time(r.nanoseconds[LIBRARY]);
+    print_ratio(1 / r.ratio[PLAIN]);
+    take_book(j);
+    measure_verdict(j, &r);
+    print_time(r.nanoseconds[LIBRARY]);
+    print_ratio(1 / r.ratio[PLAIN]);
+    renumbered(&j->first, &j->second);
+    measure_compare(j, &r);
+    print_time(r.nanoseconds[LIBRARY]);
+    print_ratio(1 / r.ratio[PLAIN]);
+    printf("\n");
+    fflush(stdout);
+}
+
+static void growth_head(const char *what, const char *rest)
+{
+    printf("\n%s (%s):\n\n| %s | build, µs | / plain C | verdict, µs | / plain C | compare, µs | / plain C |\n|---:|---:|---:|---:|---:|---:|---:|\n", what, rest, what);
+}
+
+static void print_growth(struct job *j)
+{
+    static const unsigned tops[] = { 3, 7, 15, 31, 47, 63 }, widths[][2] = { { 2, 1 }, { 4, 1 }, { 8, 1 }, { 16, 1 }, { 16, 2 }, { 16, 4 } };
+    static const unsigned rules[] = { 5, 10, 20, 32 };
+    growth_head("situations", "136 codes, 5 rules");
+    for (size_t i = 0; i < sizeof tops / sizeof *tops; i++) {
+        many_states(&j->policy, tops[i], 8, 16, 4, 5);
+        growth_row(2 * tops[i] + 1, j);
+    }
+    growth_head("codes", "127 situations, 5 rules");
+    for (size_t i = 0; i < sizeof widths / sizeof *widths; i++) {
+        many_states(&j->policy, 63, 0, widths[i][0], widths[i][1], 5);
+        growth_row(2 * widths[i][0] * widths[i][1], j);
+    }
+    growth_head("rules", "127 situations, 136 codes");
+    for (size_t i = 0; i < sizeof rules / sizeof *rules; i++) {
+        many_states(&j->policy, 63, 8, 16, 4, rules[i]);
+        growth_row(rules[i], j);
+    }
+}
+
+int main(int argc, char **argv)
+{
+    static struct job j;
+    if (argc == 2 && strcmp(argv[1], "jobs") == 0)
+        print_jobs(&j);
+    else if (argc == 2 && strcmp(argv[1], "growth") == 0)
+        print_growth(&j);
+    else
+        return 2;
+    return 0;
+}
