@@ -1,13 +1,29 @@
 /*
- * policybook.h: policies, their books, findings and comparison, for C.
+ * policybook.h: building, judging and comparing policy books, for C99 and later and for C++.
+ *
+ * A policy file holds access rules. Its book is a table that says, after every history of events and decided requests, which steps are
+ * possible next. A step is one byte, its code; a history is a list of codes. docs/FORMATS.md describes policies, books and codes byte by byte.
+ *
+ *     uint8_t book[POLICYBOOK_BOOK_SIZE];
+ *     uint64_t answer = policybook_build(policy, policy_length, book, sizeof book);
+ *     if (policybook_refusal_of(answer) != POLICYBOOK_OK)
+ *         fprintf(stderr, "refused: %s\n", policybook_refusal_text(policybook_refusal_of(answer)));
+ *     else
+ *         book_length = (size_t)policybook_value_of(answer);   // the book is the first book_length bytes of the buffer
  *
  * The three functions are proved: for every input they end, read and write only what is lent to them, and answer as docs/C-INTERFACE.md says.
- * They keep no state, allocate nothing, and may be called from several threads at once. A call needs about 128 kB of stack.
+ * They keep no state, allocate nothing, set no errno, and may be called from several threads at once. The inline functions below are plain C.
  *
- * Every function answers one number. Modulo 256 it is the number of a refusal, 0 where nothing is refused; divided by 256 it is the value.
- * A call that is refused leaves every buffer as it was. Buffers must not overlap with each other or with what is read.
+ * An answer is one number. Modulo 256 it is the number of a refusal, 0 where nothing is refused; divided by 256 it is the value.
+ * A call that is refused leaves every buffer as it was. What a call does not say it writes, stays.
  *
- * Link with libpolicybook.a (rt staticlib policybook).
+ * The caller sees to it that
+ *   - each pointer is valid for its length, and none is null, also where the length is 0;
+ *   - a buffer that is written overlaps with no other argument (two books that are only read may be the same);
+ *   - about 128 kB of stack are free.
+ * Nothing else is asked: any bytes may be given as a policy or as a book, and any length.
+ *
+ * Link with target/staticlib/libpolicybook.a, which `rt staticlib policybook` writes. Examples: host/sample.c, host/answers.c.
  */
 #ifndef POLICYBOOK_H
 #define POLICYBOOK_H
@@ -19,29 +35,32 @@
 extern "C" {
 #endif
 
-/* The least sizes of the lent buffers, in bytes. A shorter one is refused with 1. */
-#define POLICYBOOK_BOOK_SIZE    17284 /* build: the book */
-#define POLICYBOOK_FINDING_SIZE   128 /* verdict: each of the three histories */
-#define POLICYBOOK_HISTORY_SIZE   256 /* compare: the history */
+/* The least sizes of the lent buffers, in bytes. A shorter one is refused with POLICYBOOK_SHORT_BUFFER. */
+#define POLICYBOOK_BOOK_SIZE    17284 /* build: the book; no book is longer */
+#define POLICYBOOK_FINDING_SIZE   128 /* verdict: each of the three histories, of at most 126 codes */
+#define POLICYBOOK_HISTORY_SIZE   256 /* compare: the history, of at most 253 codes */
 
-/* The numbers of the refusals. The lowest that fits is given. */
+/* No policy is longer. A host that reads one byte more of a longer file gets the refusal that the whole file would get. */
+#define POLICYBOOK_POLICY_MOST    749
+
+/* The numbers of the refusals. Where several fit, the lowest is given; POLICYBOOK_SHORT_BUFFER comes before all. */
 enum policybook_refusal {
-    POLICYBOOK_OK = 0,
-    POLICYBOOK_SHORT_BUFFER = 1,      /* a buffer is too short */
-    POLICYBOOK_SHORT_POLICY = 2,      /* the policy has under 9 bytes */
+    POLICYBOOK_OK = 0,                /* nothing was refused */
+    POLICYBOOK_SHORT_BUFFER = 1,      /* a lent buffer is too short (every function) */
+    POLICYBOOK_SHORT_POLICY = 2,      /* the policy has under 9 bytes (2 to 11: build) */
     POLICYBOOK_POLICY_MARK = 3,       /* its mark is not POL */
     POLICYBOOK_POLICY_VERSION = 4,    /* its version is not 1 */
-    POLICYBOOK_POLICY_RANGE = 5,      /* events, fields, variables or rules outside their range */
-    POLICYBOOK_POLICY_LENGTH = 6,     /* its length does not fit its header */
-    POLICYBOOK_VALUE_COUNT = 7,       /* a value count outside 1 to 16, or over 64 requests */
-    POLICYBOOK_MASK = 8,              /* a mask without a bit, or with one at or above its field's count */
-    POLICYBOOK_RULE_VALUE = 9,        /* a decision, test or change outside its values */
-    POLICYBOOK_VALUATIONS = 10,       /* over 64 valuations */
+    POLICYBOOK_POLICY_RANGE = 5,      /* events are over 8, fields not 1 to 4, variables over 4, or rules not 1 to 32 */
+    POLICYBOOK_POLICY_LENGTH = 6,     /* its length does not follow from those four numbers */
+    POLICYBOOK_VALUE_COUNT = 7,       /* a value count is outside 1 to 16, or there are over 64 requests */
+    POLICYBOOK_MASK = 8,              /* a mask has no bit set, or one at or above its field's count */
+    POLICYBOOK_RULE_VALUE = 9,        /* a decision, test or change is outside its values */
+    POLICYBOOK_VALUATIONS = 10,       /* there are over 64 valuations of the variables */
     POLICYBOOK_SITUATIONS = 11,       /* over 127 situations are reached */
-    POLICYBOOK_BOOK_HEADER = 12,      /* the book has under 12 bytes, or another mark or version */
-    POLICYBOOK_BOOK_LAYOUT = 13,      /* a number of its header is outside its range, or its length does not fit */
-    POLICYBOOK_BOOK_ENTRY = 14,       /* an entry above the number of states, or 0 for an event */
-    POLICYBOOK_FRAMES = 15            /* the two books' frames differ */
+    POLICYBOOK_BOOK_HEADER = 12,      /* the book has under 12 bytes, or another mark or version (12 to 14: verdict and compare) */
+    POLICYBOOK_BOOK_LAYOUT = 13,      /* a number of its header is outside its range, or its length does not follow from them */
+    POLICYBOOK_BOOK_ENTRY = 14,       /* an entry is above the number of states, or 0 for an event */
+    POLICYBOOK_FRAMES = 15            /* the two books differ in their events or value counts (compare) */
 };
 
 /*
@@ -55,39 +74,46 @@ uint64_t policybook_build(const uint8_t *policy, size_t policy_len, uint8_t *boo
  *   conflict: after some history a request may be both accepted and rejected
  *   missing:  after some history a request is unanswered
  *   blocked:  after some history no request is answered, now or after any events
- * Refused with 1 or 12 to 14. Else take the value apart with the functions below. Where there is a finding, its buffer begins with
- * the earliest such history, one code a byte, and the request is the lowest; bytes after it, and the whole buffer of none, stay.
+ * Refused with 1 or 12 to 14. Else policybook_conflict_of, _missing_of and _blocked_of take the answer apart. Where there is a finding, its
+ * buffer begins with the earliest such history, one code a byte, and the request is the lowest; bytes after it, and the whole buffer of a
+ * finding that is none, stay.
  */
 uint64_t policybook_verdict(const uint8_t *book, size_t book_len, uint8_t *conflict, size_t conflict_len,
                             uint8_t *missing, size_t missing_len, uint8_t *blocked, size_t blocked_len);
 
 /*
- * Compares two books of one frame; history has room for POLICYBOOK_HISTORY_SIZE bytes.
+ * Compares two books with the same events and value counts; history has room for POLICYBOOK_HISTORY_SIZE bytes.
  * Refused with 1, 12 to 14 (the first book's before the second's) or 15. Else the value is 0 if the same histories are possible in both;
- * otherwise it is the length of the earliest history possible in just one, which history begins with. Bytes after it stay.
+ * otherwise it is the length of the earliest history possible in just one, which the buffer then begins with. Bytes after it stay.
  */
 uint64_t policybook_compare(const uint8_t *first, size_t first_len, const uint8_t *second, size_t second_len,
                             uint8_t *history, size_t history_len);
 
-/* ---- taking an answer apart */
+/* ---- Taking an answer apart ---- */
 
 /* The refusal's number, or POLICYBOOK_OK. */
 static inline unsigned policybook_refusal_of(uint64_t answer) { return (unsigned)(answer % 256); }
 
-/* The value: a book's length (build), a history's length or 0 for same (compare), the findings (verdict). 0 on a refusal. */
+/* The value: a book's length (build), a history's length or 0 for same (compare), the packed findings (verdict). 0 on a refusal. */
 static inline uint64_t policybook_value_of(uint64_t answer) { return answer / 256; }
 
-/* One finding of a verdict. */
+/* One finding of a verdict. Where found is 0, so are the other two. */
 struct policybook_finding {
-    int found;         /* 1 if there is one */
-    unsigned length;   /* how many codes its history has */
+    int found;         /* 1 if there is such a history */
+    unsigned length;   /* how many codes it has; 0 is the start, before anything has happened */
     unsigned request;  /* the lowest request; 0 for blocked, which has none */
 };
 
+/* Used by the three functions below: the finding whose 16 bits begin at this bit of the value. */
 static inline struct policybook_finding policybook_finding_at(uint64_t answer, unsigned bit)
 {
+    struct policybook_finding finding = { 0, 0, 0 };
     unsigned part = (unsigned)(policybook_value_of(answer) >> bit & 0xFFFF);
-    struct policybook_finding finding = { part % 256 != 0, part % 256 != 0 ? part % 256 - 1 : 0, part / 256 };
+    if (part % 256 != 0) {
+        finding.found = 1;
+        finding.length = part % 256 - 1;
+        finding.request = part / 256;
+    }
     return finding;
 }
 
@@ -100,23 +126,60 @@ static inline const char *policybook_refusal_text(unsigned number)
 {
     switch (number) {
     case POLICYBOOK_OK: return "nothing was refused";
-    case POLICYBOOK_SHORT_BUFFER: return "a lent buffer is too short";
-    case POLICYBOOK_SHORT_POLICY: return "the policy has under 9 bytes";
-    case POLICYBOOK_POLICY_MARK: return "the policy does not begin with POL";
+    case POLICYBOOK_SHORT_BUFFER: return "a lent buffer is too small";
+    case POLICYBOOK_SHORT_POLICY: return "the policy has fewer than 9 bytes";
+    case POLICYBOOK_POLICY_MARK: return "the policy does not begin with the mark POL";
     case POLICYBOOK_POLICY_VERSION: return "the policy's version is not 1";
-    case POLICYBOOK_POLICY_RANGE: return "events, fields, variables or rules are outside their range";
-    case POLICYBOOK_POLICY_LENGTH: return "the policy's length does not fit its header";
+    case POLICYBOOK_POLICY_RANGE: return "the number of events, fields, variables or rules is outside its range";
+    case POLICYBOOK_POLICY_LENGTH: return "the policy's length does not follow from its sizes";
     case POLICYBOOK_VALUE_COUNT: return "a value count is outside 1 to 16, or there are over 64 requests";
-    case POLICYBOOK_MASK: return "a mask has no bit set, or one at or above its field's count";
+    case POLICYBOOK_MASK: return "a mask is empty or has a bit at or above its field's count";
     case POLICYBOOK_RULE_VALUE: return "a decision, test or change is outside its values";
     case POLICYBOOK_VALUATIONS: return "there are over 64 valuations";
     case POLICYBOOK_SITUATIONS: return "over 127 situations are reached";
-    case POLICYBOOK_BOOK_HEADER: return "the book has under 12 bytes, or another mark or version";
-    case POLICYBOOK_BOOK_LAYOUT: return "a number of the book's header is outside its range, or its length does not fit";
+    case POLICYBOOK_BOOK_HEADER: return "the book has fewer than 12 bytes, or its mark or version is wrong";
+    case POLICYBOOK_BOOK_LAYOUT: return "a size of the book is outside its range, or its length does not follow from its sizes";
     case POLICYBOOK_BOOK_ENTRY: return "an entry of the book is above its number of states, or 0 for an event";
-    case POLICYBOOK_FRAMES: return "the two books have different frames";
+    case POLICYBOOK_FRAMES: return "the frames of the two books differ";
     default: return "no such refusal";
     }
+}
+
+/* ---- Reading a book that was built, or that verdict or compare did not refuse ---- */
+
+/* How many events, requests and states the book has. */
+static inline unsigned policybook_events_of(const uint8_t *book) { return book[5]; }
+static inline unsigned policybook_states_of(const uint8_t *book) { return book[11]; }
+static inline unsigned policybook_requests_of(const uint8_t *book)
+{
+    unsigned requests = 1;
+    for (unsigned field = 0; field < book[6]; field++) requests *= book[7 + field];
+    return requests;
+}
+
+/* The state that a code (below events + 2 * requests) leads to from a state (1 is the start), 0 if the step is not possible. */
+static inline unsigned policybook_next(const uint8_t *book, unsigned state, unsigned code)
+{
+    size_t width = policybook_events_of(book) + 2 * policybook_requests_of(book);
+    return book[12 + (state - 1) * width + code];
+}
+
+/* What a code stands for. */
+struct policybook_step {
+    int is_event;     /* 1 for an event, 0 for a request that is decided */
+    unsigned number;  /* which event, or which request */
+    int accepted;     /* for a request: 1 accepted, 0 rejected */
+};
+
+static inline struct policybook_step policybook_step_of(const uint8_t *book, unsigned code)
+{
+    struct policybook_step step = { 1, code, 0 };
+    if (code >= policybook_events_of(book)) {
+        step.is_event = 0;
+        step.number = (code - policybook_events_of(book)) / 2;
+        step.accepted = (code - policybook_events_of(book)) % 2 == 0;
+    }
+    return step;
 }
 
 #ifdef __cplusplus

@@ -1,107 +1,139 @@
 /*
- * A sample host: builds the books of two policy files, tells their findings, and compares them.
+ * A sample host: builds the books of two policy files, tells their findings in words, and compares them.
  *   sample FIRST SECOND
- * Exit status: 0 both were built (and compared), 1 one was refused, 2 bad usage or a file that cannot be read.
+ * Exit status: 0 both were built and compared, 1 something was refused, 2 bad usage or a file that cannot be read.
  */
 #include <stdio.h>
-#include <string.h>
+#include <stdlib.h>
 
+#include "files.h"
 #include "policybook.h"
 
-#define POLICY_MOST 2048
-
-/* A policy file's book. */
-struct book {
-    const char *name;
-    uint8_t bytes[POLICYBOOK_BOOK_SIZE];
-    size_t length;
-};
-
-static void print_history(const uint8_t *history, unsigned length)
-{
-    printf("after");
-    if (length == 0) printf(" nothing has happened");
-    for (unsigned i = 0; i < length; i++) printf(" %u", history[i]);
-}
-
-/* Reads at most POLICY_MOST bytes; a longer file is refused for its length by build. */
-static int read_file(const char *name, uint8_t *bytes, size_t *length)
-{
-    FILE *file = fopen(name, "rb");
-    if (file == NULL) {
-        perror(name);
-        return 0;
-    }
-    *length = fread(bytes, 1, POLICY_MOST, file);
-    int ok = ferror(file) == 0;
-    fclose(file);
-    if (!ok) fprintf(stderr, "%s: cannot be read\n", name);
-    return ok;
-}
-
-static int refused(const char *what, uint64_t answer)
+static int is_refused(const char *what, uint64_t answer)
 {
     unsigned number = policybook_refusal_of(answer);
     if (number == POLICYBOOK_OK) return 0;
-    printf("%s: refused, %u: %s\n", what, number, policybook_refusal_text(number));
+    printf("%s: refused by number %u: %s\n", what, number, policybook_refusal_text(number));
     return 1;
 }
 
-static void print_finding(const char *what, struct policybook_finding finding, const uint8_t *history, int has_request)
+static void print_step(const uint8_t *book, unsigned code)
 {
-    printf("  %s: ", what);
-    if (!finding.found) {
-        printf("none\n");
-        return;
+    struct policybook_step step = policybook_step_of(book, code);
+    if (step.is_event) printf("event %u", step.number);
+    else printf("request %u %s", step.number, step.accepted ? "accepted" : "rejected");
+}
+
+static void print_history(const uint8_t *book, const uint8_t *history, uint64_t length)
+{
+    for (uint64_t i = 0; i < length; i++) {
+        if (i > 0) printf(", ");
+        print_step(book, history[i]);
     }
-    if (has_request) printf("request %u ", finding.request);
-    print_history(history, finding.length);
     printf("\n");
 }
 
-/* 0 if the policy was built and judged, 1 if it was refused, 2 if it cannot be read. */
-static int build_and_judge(const char *name, struct book *book)
+/* Ends a line of a finding: when it holds first. */
+static void print_when(const uint8_t *book, struct policybook_finding finding, const uint8_t *history)
 {
-    uint8_t policy[POLICY_MOST];
-    uint8_t conflict[POLICYBOOK_FINDING_SIZE], missing[POLICYBOOK_FINDING_SIZE], blocked[POLICYBOOK_FINDING_SIZE];
-    size_t policy_length;
+    printf("%s", finding.length == 0 ? ", already at the start" : ", first after: ");
+    print_history(book, history, finding.length);
+}
 
-    book->name = name;
-    if (!read_file(name, policy, &policy_length)) return 2;
-    uint64_t built = policybook_build(policy, policy_length, book->bytes, sizeof book->bytes);
-    if (refused(name, built)) return 1;
-    book->length = (size_t)policybook_value_of(built);
-    printf("%s: a book of %zu bytes, %u states\n", name, book->length, book->bytes[11]);
+static void print_request_finding(const char *name, const char *what, struct policybook_finding finding, const uint8_t *book, const uint8_t *history)
+{
+    if (!finding.found) {
+        printf("  %s: none\n", name);
+        return;
+    }
+    printf("  %s: request %u %s", name, finding.request, what);
+    print_when(book, finding, history);
+}
 
-    uint64_t verdict = policybook_verdict(book->bytes, book->length, conflict, sizeof conflict, missing, sizeof missing, blocked, sizeof blocked);
-    if (refused(name, verdict)) return 1;
-    print_finding("conflict", policybook_conflict_of(verdict), conflict, 1);
-    print_finding("missing", policybook_missing_of(verdict), missing, 1);
-    print_finding("blocked", policybook_blocked_of(verdict), blocked, 0);
-    return 0;
+static void print_blocked(struct policybook_finding finding, const uint8_t *book, const uint8_t *history)
+{
+    if (!finding.found) {
+        printf("  blocked: none\n");
+        return;
+    }
+    printf("  blocked: no request is answered any more");
+    print_when(book, finding, history);
+}
+
+/* Prints the three findings. 1 if the book is refused, which no built book is. */
+static int judge(const char *name, struct bytes book)
+{
+    uint8_t *conflict = lent_buffer(POLICYBOOK_FINDING_SIZE, 0);
+    uint8_t *missing = lent_buffer(POLICYBOOK_FINDING_SIZE, 0);
+    uint8_t *blocked = lent_buffer(POLICYBOOK_FINDING_SIZE, 0);
+    uint64_t answer = policybook_verdict(book.data, book.length, conflict, POLICYBOOK_FINDING_SIZE,
+                                         missing, POLICYBOOK_FINDING_SIZE, blocked, POLICYBOOK_FINDING_SIZE);
+    int refused = is_refused(name, answer);
+    if (!refused) {
+        print_request_finding("conflict", "may be both accepted and rejected", policybook_conflict_of(answer), book.data, conflict);
+        print_request_finding("missing", "is unanswered", policybook_missing_of(answer), book.data, missing);
+        print_blocked(policybook_blocked_of(answer), book.data, blocked);
+    }
+    free(conflict);
+    free(missing);
+    free(blocked);
+    return refused;
+}
+
+/* 0 if the policy was built and judged, 1 if it was refused, 2 if it cannot be read. Only with 0 there is a book, to be freed. */
+static int build_and_judge(const char *name, struct bytes *book)
+{
+    struct bytes policy;
+    if (!read_file(name, POLICYBOOK_POLICY_MOST + 1, &policy)) return 2;
+    uint8_t *buffer = lent_buffer(POLICYBOOK_BOOK_SIZE, 0);
+    uint64_t answer = policybook_build(policy.data, policy.length, buffer, POLICYBOOK_BOOK_SIZE);
+    int refused = is_refused(name, answer);
+    if (!refused) {
+        *book = exact_copy(buffer, (size_t)policybook_value_of(answer));
+        printf("%s: a book of %zu bytes, states: %u\n", name, book->length, policybook_states_of(book->data));
+        refused = judge(name, *book);
+    }
+    free(buffer);
+    free(policy.data);
+    return refused;
+}
+
+/* Whether each of the codes is possible, one after another from the start. */
+static int is_possible(const uint8_t *book, const uint8_t *history, uint64_t length)
+{
+    unsigned state = 1;
+    for (uint64_t i = 0; i < length && state != 0; i++) state = policybook_next(book, state, history[i]);
+    return state != 0;
+}
+
+static int compare(const char *first_name, struct bytes first, const char *second_name, struct bytes second)
+{
+    uint8_t *history = lent_buffer(POLICYBOOK_HISTORY_SIZE, 0);
+    uint64_t answer = policybook_compare(first.data, first.length, second.data, second.length, history, POLICYBOOK_HISTORY_SIZE);
+    int refused = is_refused("comparison", answer);
+    uint64_t length = policybook_value_of(answer);
+    if (!refused && length == 0) {
+        printf("comparison: the same histories are possible under both\n");
+    } else if (!refused) {
+        printf("comparison: the earliest history possible under just one of them, %s: ", is_possible(first.data, history, length) ? first_name : second_name);
+        print_history(first.data, history, length);
+    }
+    free(history);
+    return refused;
 }
 
 int main(int argc, char **argv)
 {
-    static struct book first, second;
-    uint8_t history[POLICYBOOK_HISTORY_SIZE];
-
+    struct bytes first = { NULL, 0 }, second = { NULL, 0 };
     if (argc != 3) {
-        fprintf(stderr, "usage: %s FIRST SECOND\n", argc > 0 ? argv[0] : "sample");
+        fprintf(stderr, "usage: sample FIRST SECOND\n");
         return 2;
     }
     int one = build_and_judge(argv[1], &first);
     int two = build_and_judge(argv[2], &second);
-    if (one != 0 || two != 0) return one > two ? one : two;
-
-    uint64_t compared = policybook_compare(first.bytes, first.length, second.bytes, second.length, history, sizeof history);
-    if (refused("comparison", compared)) return 1;
-    if (policybook_value_of(compared) == 0) {
-        printf("the same histories are possible under both\n");
-        return 0;
-    }
-    printf("the earliest history possible under just one:");
-    for (unsigned i = 0; i < policybook_value_of(compared); i++) printf(" %u", history[i]);
-    printf("\n");
-    return 0;
+    int status = one > two ? one : two;
+    if (status == 0) status = compare(argv[1], first, argv[2], second);
+    free(first.data);
+    free(second.data);
+    return status;
 }

@@ -86,6 +86,18 @@ impl Book {
         self.rows[state - 1][code] as usize
     }
 
+    /// Whether the history is possible in the book.
+    pub fn allows(&self, history: &[u8]) -> bool {
+        let mut state = 1;
+        for &code in history {
+            state = self.entry(state, code as usize);
+            if state == 0 {
+                return false;
+            }
+        }
+        true
+    }
+
     /// Whether the request may be accepted in the state.
     pub fn accepts(&self, state: usize, request: usize) -> bool {
         self.entry(state, self.frame.accept_code(request)) != 0

@@ -163,7 +163,7 @@ fn help_is_an_answer() {
     let (help, status) = text(&output);
     assert_eq!(status, Some(0));
     for command in [
-        "book", "shelf", "compare", "verdict", "build", "generate", "help",
+        "book", "shelf", "compare", "verdict", "build", "generate", "host", "dot", "help",
     ] {
         assert!(help.contains(&format!("reference {command}")));
     }

@@ -1,0 +1,51 @@
+//! Writes the guide and its files.
+//!
+//!     guide TEMPLATE FOLDER
+//!
+//! FOLDER gets GUIDE.md, and in FOLDER/guide the policies, books, pictures as text
+//! for Graphviz, and answers.txt.
+
+use std::path::Path;
+use std::process::ExitCode;
+use std::{env, fs};
+
+use guide::files::{answers, files_of};
+use guide::lessons::lessons;
+use guide::text::filled;
+
+fn main() -> ExitCode {
+    let arguments: Vec<String> = env::args().skip(1).collect();
+    let result = match &arguments[..] {
+        [template, folder] => write_all(template, Path::new(folder)),
+        _ => Err("usage: guide TEMPLATE FOLDER".to_string()),
+    };
+    match result {
+        Ok(()) => ExitCode::SUCCESS,
+        Err(message) => {
+            eprintln!("{message}");
+            ExitCode::from(2)
+        }
+    }
+}
+
+fn write_all(template: &str, folder: &Path) -> Result<(), String> {
+    let lessons = lessons();
+    let template =
+        fs::read_to_string(template).map_err(|error| format!("cannot read {template}: {error}"))?;
+    let inner = folder.join("guide");
+    fs::create_dir_all(&inner)
+        .map_err(|error| format!("cannot make {}: {error}", inner.display()))?;
+    write(
+        &folder.join("GUIDE.md"),
+        filled(&template, &lessons)?.as_bytes(),
+    )?;
+    write(&inner.join("answers.txt"), answers(&lessons).as_bytes())?;
+    for (name, bytes) in lessons.iter().flat_map(files_of) {
+        write(&inner.join(name), &bytes)?;
+    }
+    Ok(())
+}
+
+fn write(path: &Path, bytes: &[u8]) -> Result<(), String> {
+    fs::write(path, bytes).map_err(|error| format!("cannot write {}: {error}", path.display()))
+}

@@ -1,0 +1,136 @@
+/*
+ * The answers of the library in the lines that `reference` prints for the same words, so that the two are compared as text.
+ *   answers build POLICY OUT      writes the book of a policy into the file OUT
+ *   answers shelf POLICY          the number of states and the three findings of a policy
+ *   answers verdict BOOK          the three findings of a book
+ *   answers compare BOOK BOOK     same, or the earliest history possible in just one
+ * A refusal is the line `refused N`, with its meaning on standard error. Exit status: 0 for every answer, 2 for bad usage or files.
+ */
+#include <stdio.h>
+#include <stdlib.h>
+#include <string.h>
+
+#include "files.h"
+#include "policybook.h"
+
+/* One byte more than the longest book, so that a longer file is refused for its length. */
+#define BOOK_READ (POLICYBOOK_BOOK_SIZE + 1)
+
+static int is_refused(uint64_t answer)
+{
+    unsigned number = policybook_refusal_of(answer);
+    if (number == POLICYBOOK_OK) return 0;
+    fprintf(stderr, "refused by number %u: %s\n", number, policybook_refusal_text(number));
+    printf("refused %u\n", number);
+    return 1;
+}
+
+/* The length and the codes, one blank before each. */
+static void print_history(const uint8_t *history, uint64_t length)
+{
+    printf(" %u", (unsigned)length);
+    for (uint64_t i = 0; i < length; i++) printf(" %u", (unsigned)history[i]);
+    printf("\n");
+}
+
+static void print_finding(const char *name, struct policybook_finding finding, int has_request, const uint8_t *history)
+{
+    printf("%s", name);
+    if (!finding.found) {
+        printf(" -\n");
+        return;
+    }
+    if (has_request) printf(" %u", finding.request);
+    print_history(history, finding.length);
+}
+
+static void verdict(struct bytes book)
+{
+    uint8_t *conflict = lent_buffer(POLICYBOOK_FINDING_SIZE, 0);
+    uint8_t *missing = lent_buffer(POLICYBOOK_FINDING_SIZE, 0);
+    uint8_t *blocked = lent_buffer(POLICYBOOK_FINDING_SIZE, 0);
+    uint64_t answer = policybook_verdict(book.data, book.length, conflict, POLICYBOOK_FINDING_SIZE,
+                                         missing, POLICYBOOK_FINDING_SIZE, blocked, POLICYBOOK_FINDING_SIZE);
+    if (!is_refused(answer)) {
+        print_finding("conflict", policybook_conflict_of(answer), 1, conflict);
+        print_finding("missing", policybook_missing_of(answer), 1, missing);
+        print_finding("blocked", policybook_blocked_of(answer), 0, blocked);
+    }
+    free(conflict);
+    free(missing);
+    free(blocked);
+}
+
+static void compare(struct bytes first, struct bytes second)
+{
+    uint8_t *history = lent_buffer(POLICYBOOK_HISTORY_SIZE, 0);
+    uint64_t answer = policybook_compare(first.data, first.length, second.data, second.length, history, POLICYBOOK_HISTORY_SIZE);
+    if (!is_refused(answer)) {
+        printf("%s", policybook_value_of(answer) == 0 ? "same\n" : "differ");
+        if (policybook_value_of(answer) != 0) print_history(history, policybook_value_of(answer));
+    }
+    free(history);
+}
+
+/* The book of a policy, with no byte to spare. 0 if it is refused. */
+static int build(struct bytes policy, struct bytes *book)
+{
+    uint8_t *buffer = lent_buffer(POLICYBOOK_BOOK_SIZE, 0);
+    uint64_t answer = policybook_build(policy.data, policy.length, buffer, POLICYBOOK_BOOK_SIZE);
+    int built = !is_refused(answer);
+    if (built) *book = exact_copy(buffer, (size_t)policybook_value_of(answer));
+    free(buffer);
+    return built;
+}
+
+static int write_file(const char *name, struct bytes bytes)
+{
+    FILE *file = fopen(name, "wb");
+    int written = file != NULL && fwrite(bytes.data, 1, bytes.length, file) == bytes.length;
+    if (file != NULL && fclose(file) != 0) written = 0;
+    if (!written) perror(name);
+    return written;
+}
+
+/* Builds a policy's book, and writes it to a file or, with no file, prints the states and findings. The exit status. */
+static int with_policy(const char *name, const char *out)
+{
+    struct bytes policy, book;
+    int status = 0;
+    if (!read_file(name, POLICYBOOK_POLICY_MOST + 1, &policy)) return 2;
+    if (build(policy, &book)) {
+        if (out == NULL) {
+            printf("states %u\n", policybook_states_of(book.data));
+            verdict(book);
+        } else if (!write_file(out, book)) {
+            status = 2;
+        }
+        free(book.data);
+    }
+    free(policy.data);
+    return status;
+}
+
+/* Judges a book or, with a second one, compares the two. The exit status. */
+static int with_books(const char *first_name, const char *second_name)
+{
+    struct bytes first, second = { NULL, 0 };
+    if (!read_file(first_name, BOOK_READ, &first)) return 2;
+    int readable = second_name == NULL || read_file(second_name, BOOK_READ, &second);
+    if (second_name == NULL) verdict(first);
+    else if (readable) compare(first, second);
+    free(first.data);
+    free(second.data);
+    return readable ? 0 : 2;
+}
+
+int main(int argc, char **argv)
+{
+    const char *command = argc > 1 ? argv[1] : "";
+    if (argc == 4 && strcmp(command, "build") == 0) return with_policy(argv[2], argv[3]);
+    if (argc == 3 && strcmp(command, "shelf") == 0) return with_policy(argv[2], NULL);
+    if (argc == 3 && strcmp(command, "verdict") == 0) return with_books(argv[2], NULL);
+    if (argc == 4 && strcmp(command, "compare") == 0) return with_books(argv[2], argv[3]);
+    fprintf(stderr, "usage: answers build POLICY OUT | shelf POLICY | verdict BOOK | compare BOOK BOOK\n");
+    return 2;
+}

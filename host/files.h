@@ -1,0 +1,23 @@
+/* Reading a file whole, for the programs of this folder. */
+#ifndef FILES_H
+#define FILES_H
+
+#include <stddef.h>
+#include <stdint.h>
+
+/* The bytes of a file, on the heap with no byte to spare, so that memcheck sees every access beyond them. */
+struct bytes {
+    uint8_t *data;
+    size_t length;
+};
+
+/* Reads a file, of a longer one the first `most` bytes. 0 and a line on standard error if it cannot be read. free(data) after use. */
+int read_file(const char *name, size_t most, struct bytes *bytes);
+
+/* A copy of some bytes, with no byte to spare. Ends the program if there is no memory. */
+struct bytes exact_copy(const uint8_t *data, size_t length);
+
+/* A buffer of this size, every byte the same. Ends the program if there is no memory. */
+uint8_t *lent_buffer(size_t size, int byte);
+
+#endif

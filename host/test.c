@@ -1,0 +1,181 @@
+/*
+ * Tests of the header: buffers that are one byte too short, bytes that must stay, and the inline functions, on case E of document 01
+ * and small books. Every buffer is on the heap with no byte to spare, so that memcheck sees each access outside. Exit status 1 on a failure.
+ */
+#include <stdio.h>
+#include <stdlib.h>
+#include <string.h>
+
+#include "files.h"
+#include "policybook.h"
+
+#define FILLED 0xA5
+
+static int failures;
+
+static void check(int holds, const char *what, int line)
+{
+    if (holds) return;
+    printf("line %d: %s\n", line, what);
+    failures++;
+}
+
+#define CHECK(condition) check((condition), #condition, __LINE__)
+
+/* Case E: conflict for request 0 after the history 3 3. */
+static const uint8_t policy_e[] = {
+    0x50, 0x4F, 0x4C, 0x00, 0x01, 0x01, 0x01, 0x01, 0x04, 0x02,
+    0x00, 0x01, 0x01, 0x00, 0x00, 0x00, 0x00, 0x00, 0x02, 0x01, 0x00, 0x00, 0x02, 0x01,
+    0x00, 0x02, 0x00, 0x00, 0x02, 0x00, 0x00, 0x00, 0x01, 0x00, 0x00, 0x02, 0x00, 0x00, 0x02,
+};
+
+static const uint8_t book_e[] = {
+    0x42, 0x4F, 0x4B, 0x00, 0x01, 0x01, 0x01, 0x02, 0x00, 0x00, 0x00, 0x03,
+    0x01, 0x01, 0x00, 0x02, 0x00, 0x01, 0x02, 0x00, 0x03, 0x00, 0x01, 0x03, 0x03, 0x00, 0x03,
+};
+
+/* Case G: missing request 0 and blocked, both after 0. */
+static const uint8_t book_g[] = { 0x42, 0x4F, 0x4B, 0x00, 0x01, 0x00, 0x01, 0x02, 0x00, 0x00, 0x00, 0x02, 2, 0, 2, 0, 0, 0, 0, 0 };
+
+/* Two states and two events; nothing is ever answered, so request 0 is missing and the book blocked at the start. */
+static const uint8_t book_silent[] = { 0x42, 0x4F, 0x4B, 0x00, 0x01, 0x02, 0x01, 0x01, 0x00, 0x00, 0x00, 0x02, 2, 1, 0, 0, 1, 2, 0, 0 };
+
+/* Whether the buffer has these bytes and then only the byte it was filled with. */
+static int begins_with(const uint8_t *buffer, size_t size, const uint8_t *bytes, size_t length)
+{
+    for (size_t i = length; i < size; i++) {
+        if (buffer[i] != FILLED) return 0;
+    }
+    return memcmp(buffer, bytes, length) == 0;
+}
+
+/* Calls build with a buffer of this size; the answer, and whether the buffer begins with these bytes and else has stayed. */
+static void expect_build(struct bytes policy, size_t size, uint64_t wanted, const uint8_t *bytes, size_t length)
+{
+    uint8_t *buffer = lent_buffer(size, FILLED);
+    CHECK(policybook_build(policy.data, policy.length, buffer, size) == wanted);
+    CHECK(begins_with(buffer, size, bytes, length));
+    free(buffer);
+}
+
+static void test_build(void)
+{
+    struct bytes policy = exact_copy(policy_e, sizeof policy_e);
+    struct bytes none = exact_copy(policy_e, 0);
+    expect_build(policy, POLICYBOOK_BOOK_SIZE, 256 * sizeof book_e, book_e, sizeof book_e);
+    expect_build(policy, POLICYBOOK_BOOK_SIZE + 7, 256 * sizeof book_e, book_e, sizeof book_e);
+    expect_build(policy, POLICYBOOK_BOOK_SIZE - 1, POLICYBOOK_SHORT_BUFFER, book_e, 0);
+    expect_build(policy, 0, POLICYBOOK_SHORT_BUFFER, book_e, 0);
+    expect_build(none, POLICYBOOK_BOOK_SIZE, POLICYBOOK_SHORT_POLICY, book_e, 0);
+    expect_build(none, 0, POLICYBOOK_SHORT_BUFFER, book_e, 0);
+    free(policy.data);
+    free(none.data);
+}
+
+/* Verdict of a book with buffers of these sizes; the answer, and the three buffers: how many bytes of history each begins with. */
+static uint64_t expect_verdict(struct bytes book, const size_t size[3], const uint8_t *history, const size_t length[3])
+{
+    uint8_t *buffer[3] = { lent_buffer(size[0], FILLED), lent_buffer(size[1], FILLED), lent_buffer(size[2], FILLED) };
+    uint64_t answer = policybook_verdict(book.data, book.length, buffer[0], size[0], buffer[1], size[1], buffer[2], size[2]);
+    for (int i = 0; i < 3; i++) {
+        CHECK(begins_with(buffer[i], size[i], history, length[i]));
+        free(buffer[i]);
+    }
+    return answer;
+}
+
+static void test_verdict(void)
+{
+    static const size_t enough[3] = { 128, 128, 128 }, none[3] = { 0, 0, 0 };
+    static const size_t conflict_after_two[3] = { 2, 0, 0 }, two_after_one[3] = { 0, 1, 1 };
+    static const uint8_t threes[2] = { 3, 3 }, zero[1] = { 0 };
+    struct bytes e = exact_copy(book_e, sizeof book_e), g = exact_copy(book_g, sizeof book_g), silent = exact_copy(book_silent, sizeof book_silent);
+
+    uint64_t answer = expect_verdict(e, enough, threes, conflict_after_two);
+    CHECK(answer == 768);
+    CHECK(policybook_conflict_of(answer).found && policybook_conflict_of(answer).length == 2 && policybook_conflict_of(answer).request == 0);
+    CHECK(!policybook_missing_of(answer).found && !policybook_blocked_of(answer).found);
+    answer = expect_verdict(g, enough, zero, two_after_one);
+    CHECK(!policybook_conflict_of(answer).found && policybook_conflict_of(answer).length == 0);
+    CHECK(policybook_missing_of(answer).found && policybook_missing_of(answer).length == 1 && policybook_missing_of(answer).request == 0);
+    CHECK(policybook_blocked_of(answer).found && policybook_blocked_of(answer).length == 1);
+    answer = expect_verdict(silent, enough, zero, none);
+    CHECK(policybook_refusal_of(answer) == POLICYBOOK_OK && !policybook_conflict_of(answer).found);
+    CHECK(policybook_missing_of(answer).found && policybook_missing_of(answer).length == 0);
+    CHECK(policybook_blocked_of(answer).found && policybook_blocked_of(answer).length == 0);
+    free(e.data);
+    free(g.data);
+    free(silent.data);
+}
+
+static void test_verdict_refused(void)
+{
+    static const size_t enough[3] = { 128, 128, 128 }, none[3] = { 0, 0, 0 };
+    static const size_t shorter[3][3] = { { 127, 128, 128 }, { 128, 127, 128 }, { 128, 128, 127 } };
+    struct bytes e = exact_copy(book_e, sizeof book_e), cut = exact_copy(book_e, sizeof book_e - 1), empty = exact_copy(book_e, 0);
+    for (int i = 0; i < 3; i++) {
+        CHECK(expect_verdict(e, shorter[i], book_e, none) == POLICYBOOK_SHORT_BUFFER);
+        CHECK(expect_verdict(empty, shorter[i], book_e, none) == POLICYBOOK_SHORT_BUFFER);
+    }
+    CHECK(expect_verdict(empty, enough, book_e, none) == POLICYBOOK_BOOK_HEADER);
+    CHECK(expect_verdict(cut, enough, book_e, none) == POLICYBOOK_BOOK_LAYOUT);
+    e.data[e.length - 1] = 4;
+    CHECK(expect_verdict(e, enough, book_e, none) == POLICYBOOK_BOOK_ENTRY);
+    free(e.data);
+    free(cut.data);
+    free(empty.data);
+}
+
+static void expect_compare(struct bytes first, struct bytes second, size_t size, uint64_t wanted, const uint8_t *history, size_t length)
+{
+    uint8_t *buffer = lent_buffer(size, FILLED);
+    CHECK(policybook_compare(first.data, first.length, second.data, second.length, buffer, size) == wanted);
+    CHECK(begins_with(buffer, size, history, length));
+    free(buffer);
+}
+
+static void test_compare(void)
+{
+    static const uint8_t view_rejected[3] = { 3, 3, 2 };
+    struct bytes e = exact_copy(book_e, sizeof book_e), other = exact_copy(book_e, sizeof book_e);
+    struct bytes g = exact_copy(book_g, sizeof book_g), empty = exact_copy(book_e, 0);
+    other.data[24] = 0; /* request 0 rejected is not possible in state 3: case A */
+    expect_compare(e, other, POLICYBOOK_HISTORY_SIZE, 3 * 256, view_rejected, 3);
+    expect_compare(other, e, POLICYBOOK_HISTORY_SIZE + 9, 3 * 256, view_rejected, 3);
+    expect_compare(e, e, POLICYBOOK_HISTORY_SIZE, 0, view_rejected, 0);
+    expect_compare(e, other, POLICYBOOK_HISTORY_SIZE - 1, POLICYBOOK_SHORT_BUFFER, view_rejected, 0);
+    expect_compare(empty, empty, 0, POLICYBOOK_SHORT_BUFFER, view_rejected, 0);
+    expect_compare(e, empty, POLICYBOOK_HISTORY_SIZE, POLICYBOOK_BOOK_HEADER, view_rejected, 0);
+    expect_compare(e, g, POLICYBOOK_HISTORY_SIZE, POLICYBOOK_FRAMES, view_rejected, 0);
+    other.data[26] = 4;
+    expect_compare(other, empty, POLICYBOOK_HISTORY_SIZE, POLICYBOOK_BOOK_ENTRY, view_rejected, 0);
+    expect_compare(empty, other, POLICYBOOK_HISTORY_SIZE, POLICYBOOK_BOOK_HEADER, view_rejected, 0);
+    free(e.data);
+    free(other.data);
+    free(g.data);
+    free(empty.data);
+}
+
+static void test_reading(void)
+{
+    struct policybook_step event = policybook_step_of(book_e, 0);
+    struct policybook_step accepted = policybook_step_of(book_e, 3), rejected = policybook_step_of(book_e, 4);
+    CHECK(policybook_events_of(book_e) == 1 && policybook_requests_of(book_e) == 2 && policybook_states_of(book_e) == 3);
+    CHECK(policybook_next(book_e, 1, 3) == 2 && policybook_next(book_e, 1, 4) == 0 && policybook_next(book_e, 3, 4) == 3);
+    CHECK(event.is_event && event.number == 0);
+    CHECK(!accepted.is_event && accepted.number == 1 && accepted.accepted);
+    CHECK(!rejected.is_event && rejected.number == 1 && !rejected.accepted);
+    CHECK(policybook_value_of(POLICYBOOK_FRAMES) == 0 && policybook_refusal_of(768) == POLICYBOOK_OK);
+    CHECK(strcmp(policybook_refusal_text(POLICYBOOK_FRAMES + 1), "no such refusal") == 0);
+}
+
+int main(void)
+{
+    test_build();
+    test_verdict();
+    test_verdict_refused();
+    test_compare();
+    test_reading();
+    printf("host/test.c: %s\n", failures == 0 ? "every check holds" : "FAILED");
+    return failures == 0 ? 0 : 1;
+}
