@@ -1,7 +1,2 @@
--- Laws that belong to no one function.
-pub mod Below
-pub mod Checks
-pub mod Entries
-pub mod Passing
+pub mod Equal
 pub mod Places
-pub mod Steps

@@ -3,18 +3,8 @@ ghost use mathlib.Core.Path.{_≡_};
 ghost use Prim.Native.Nat.{_≤_, _<_};
 ghost use lib.ListN.{length};
 ghost use Rattle.definitions.specs.Book as Book;
-ghost use Rattle.definitions.specs.Bytes.{within as isWithin};
-ghost use Rattle.book.specs.Passed.{LaidOut};
+ghost use Rattle.definitions.proofs.Accepted.{BookLayout};
 use automaton::wide;
-
-pub fn within(low: usize, x: usize, high: usize) -> bool
-    ensures { λ r. ⌜ r ≡ isWithin low x high ⌝ }
-{
-    if x < low {
-        return false;
-    }
-    x <= high
-}
 
 // E.
 pub fn events(book: &[u8]) -> usize
@@ -49,7 +39,7 @@ pub fn requests(book: &[u8]) -> usize
 
 // w, the number of codes.
 pub fn width(book: &[u8]) -> usize
-    requires { ⌜ LaidOut (now book) ⌝ }
+    requires { ⌜ BookLayout (now book) ⌝ }
     ensures { λ r. ⌜ r ≡ Book.width (now (book .entry)) ⌝ }
 {
     events(book) + 2 * requests(book)
@@ -57,7 +47,7 @@ pub fn width(book: &[u8]) -> usize
 
 // Entry c of row s: the state after code c, 0 if it is not possible. The caller hands in the width, which it takes once.
 pub fn entry(book: &[u8], width: usize, s: usize, c: usize) -> usize
-    requires { ⌜ LaidOut (now book) ⌝ }
+    requires { ⌜ BookLayout (now book) ⌝ }
     requires { ⌜ (width ≡ Book.width (now book)) × (c < width) ⌝ }
     requires { ⌜ (1 ≤ s) × (s ≤ Book.states (now book)) ⌝ }
     ensures { λ r. ⌜ r ≡ Book.entry (now (book .entry)) s c ⌝ }

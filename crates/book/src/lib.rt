@@ -1,6 +1,5 @@
-// The bytes of a book: what turns them down, what stands where, equal bytes.
+// The bytes of a book: what stands where, equal bytes. What turns them down stands in the crate bookcheck.
 mod layout;
-mod rows;
 mod same;
 
 pub use layout::entry;
@@ -8,6 +7,5 @@ pub use layout::events;
 pub use layout::requests;
 pub use layout::states;
 pub use layout::width;
-pub use rows::refusal;
 pub use same::same_bytes;
 pub use same::same_frame;

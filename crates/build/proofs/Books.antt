@@ -1,7 +1,7 @@
 -- The rows that are written are those of the smallest table with the histories of the table that was explored.
-use mathlib.Core.Path.{_≡_, refl, sym, ap, _∙_}
+use mathlib.Core.Path.{_≡_, sym, ap, _∙_}
 use mathlib.Core.Bool.{true, false≢true}
-use mathlib.Core.List.{List, [], _∷_, _++_, map}
+use mathlib.Core.List.{List, []}
 use Prim.Native.Nat.{ℕ, zero, suc, _+_, _-_, _*_, _<_, _≤_}
 use native.Mathlib.Omega.{arith}
 use lib.ListN.{length, getD, take, drop, length-map, length-drop}
@@ -9,22 +9,21 @@ use lib.Seq.{ext-getD, getD-take, getD-drop, length-take-le}
 use Rattle.automaton.specs.Machine.{Machine, step, isState}
 use Rattle.automaton.specs.Explore.{Reached, numberIn, reached}
 use Rattle.automaton.specs.Table.{rowOf, table}
-use Rattle.automaton.specs.Join.{joined, minimal}
+use Rattle.automaton.specs.Join.{minimal}
 use Rattle.automaton.proofs.Counting.{length-list-below, getD-list-below}
 use Rattle.automaton.proofs.WellFormed.{getD-map-within}
 use Rattle.automaton.proofs.Exploring.{stateAt}
 use Rattle.automaton.proofs.Tables.{table-length}
 use Rattle.definitions.specs.Bytes.{byte}
-use Rattle.build.specs.States.{states}
-use Rattle.build.specs.Rows.{numberedRow, numberedRows}
-use Rattle.build.specs.Classes.{rowsWith}
-use Rattle.build.specs.Numbers.{Joined, StatesBelow, joinedIn, classesReached, stateNumbers}
-use Rattle.build.proofs.States.{length-states, state-at}
-use Rattle.build.proofs.Reaching.{row-of-table}
-use Rattle.build.proofs.TableBytes.{state-row, state-entry}
-use Rattle.build.proofs.Classing.{count, joined-step, classes-sound}
-use Rattle.build.proofs.Ordering.{state-low}
-use Rattle.build.proofs.Writing.{looked-length}
+use Rattle.tables.specs.States.{states}
+use Rattle.write.specs.Rows.{numberedRow, numberedRows, StatesBelow}
+use Rattle.join.specs.Classes.{rowsWith}
+use Rattle.join.specs.Numbers.{Joined, joinedIn, classesReached, stateNumbers}
+use Rattle.tables.proofs.States.{length-states, state-at}
+use Rattle.tables.proofs.TableBytes.{row-of-table, state-row, state-entry}
+use Rattle.join.proofs.Classing.{count, joined-step, classes-sound}
+use Rattle.join.proofs.Ordering.{state-low}
+use Rattle.write.proofs.Writing.{looked-length}
 
 module _ {raw : List ℕ} {w : ℕ} {array : List ℕ} (ok : Joined raw w array) where
   abbrev L : List Reached

@@ -3,7 +3,6 @@
 use mathlib.Core.Path.{_≡_, refl, sym, ap, _∙_}
 use mathlib.Core.Bool.{Bool, cond, true, false}
 use mathlib.Core.List.{List, [], _∷_, _++_}
-use mathlib.Core.Logic.{_⊎_, inl, inr}
 use Prim.Native.Nat.{ℕ, zero, suc, _+_, _-_, _*_, _<_, _≤_}
 use native.Mathlib.Omega.{arith}
 use native.Mathlib.Nat.{mul-le-mul, mul-le-mul-right}
@@ -13,14 +12,12 @@ use lib.ListN.{length, getD, drop, List·getD-append}
 use lib.Seq.{getD-append-add}
 use borrow.Author.Tests.{le-leb, lt-leb, leb-true, leb-false, eq-eqb, ne-eqb}
 use Rattle.automaton.specs.Machine.{Machine, isState}
-use Rattle.automaton.specs.Explore.{Reached, reached}
-use Rattle.automaton.specs.Table.{table, entryIn}
+use Rattle.automaton.specs.Table.{table}
 use Rattle.automaton.specs.Join.{minimal}
 use Rattle.automaton.proofs.WellFormed.{IsTable}
-use Rattle.automaton.proofs.Exploring.{Sound, reached-sound}
+use Rattle.automaton.proofs.Exploring.{reached-sound}
 use Rattle.automaton.proofs.Tables.{table-length, table-is-table}
 use Rattle.definitions.specs.Answer.{judge, refused, given, written}
-use Rattle.definitions.specs.Bytes.{byte}
 use Rattle.definitions.specs.Policy.{fields, width, frame}
 use Rattle.definitions.specs.Valuation.{valuations}
 use Rattle.definitions.specs.Situation.{policyMachine}
@@ -29,13 +26,12 @@ use Rattle.definitions.specs.Refusal.{fileRefusal, situations, row11, policyRef
 use Rattle.definitions.specs.Build.{bookRows, bookOf, buildRefusal, buildAnswer, buildBuffer}
 use Rattle.policy.specs.Sized.{Passed}
 use Rattle.policy.proofs.Checked.{passed}
-use Rattle.build.specs.Images.{imagesMachine}
-use Rattle.build.specs.States.{allReached, atMost, Reaches}
-use Rattle.build.specs.Rows.{rowsIn}
-use Rattle.build.specs.Classes.{TableIn}
+use Rattle.explore.specs.Images.{imagesMachine}
+use Rattle.explore.specs.Reaches.{allReached, Reaches}
+use Rattle.tables.specs.Rows.{rowsIn, TableIn}
 use Rattle.build.proofs.Policies.{ImagesOf, reached-policy, table-policy}
-use Rattle.build.proofs.Buffers.{Wide, length-concat, length-written, rows-of-concat}
-use Rattle.build.proofs.Reaching.{table-wide}
+use Rattle.tables.proofs.Buffers.{length-concat, length-written, rows-of-concat}
+use Rattle.tables.proofs.TableBytes.{table-wide}
 
 -- ---- the sizes of a policy that has passed
 module _ (p : List ℕ) (e : fileRefusal p ≡ 0) where

@@ -1,20 +1,20 @@
 -- From an explored table to the rows of its book: what joining leaves numbering starts from, and what numbering leaves is written.
 use mathlib.Core.Path.{_≡_, refl, sym, ap, _∙_}
-use mathlib.Core.List.{List, [], _∷_, _++_}
-use Prim.Native.Nat.{ℕ, zero, suc, _+_, _-_, _*_, _<_, _≤_}
+use mathlib.Core.List.{List, _∷_}
+use Prim.Native.Nat.{ℕ, zero, suc, _+_, _-_, _*_, _≤_}
 use native.Mathlib.Omega.{arith}
 use native.Mathlib.Nat.{le-of-suc-le-suc, not-suc-le-zero, mul-le-mul-right}
-use lib.ListN.{length, take, drop, replicate, length-map}
+use lib.ListN.{length, take, replicate, length-map}
 use Rattle.automaton.specs.Explore.{numberIn}
 use Rattle.automaton.specs.Join.{classes, minimal}
-use Rattle.definitions.specs.Answer.{written}
-use Rattle.build.specs.States.{states}
-use Rattle.build.specs.Rows.{rowsIn, numberedRows}
-use Rattle.build.specs.Classes.{TableIn, lastRound}
-use Rattle.build.specs.Numbers.{Joined, StatesBelow, classesReached, stateNumbers, Numbered}
-use Rattle.build.proofs.States.{length-states}
-use Rattle.build.proofs.Buffers.{take-written}
-use Rattle.build.proofs.Classing.{reached-low}
+use Rattle.tables.specs.States.{states}
+use Rattle.tables.specs.Rows.{rowsIn, TableIn}
+use Rattle.write.specs.Rows.{numberedRows, StatesBelow}
+use Rattle.join.specs.Classes.{lastRound}
+use Rattle.join.specs.Numbers.{Joined, classesReached, Numbered}
+use Rattle.tables.proofs.States.{length-states}
+use Rattle.tables.proofs.Buffers.{take-written}
+use Rattle.join.proofs.Classing.{reached-low}
 use Rattle.build.proofs.Books.{order-states, numbered-minimal}
 
 pub take-replicate : (k n : ℕ) → k ≤ n → take {A = ℕ} k (replicate n 0) ≡ replicate k 0

@@ -1,10 +1,9 @@
 -- A table of the images of a policy gives the policy's machine: the same situations are reached, and with the same table.
-use mathlib.Core.Path.{_≡_, refl, sym, ap, _∙_}
+use mathlib.Core.Path.{_≡_, refl, ap}
 use mathlib.Core.Bool.{Bool, cond, true, false}
 use mathlib.Core.List.{List}
-use Prim.Native.Nat.{ℕ, zero, suc, _+_, _*_, _<_}
+use Prim.Native.Nat.{ℕ, zero, suc, _<_}
 use lib.Dec.{ltb}
-use lib.ListN.{getD}
 use borrow.Author.Tests.{ltb-true}
 use Rattle.automaton.specs.Machine.{Machine, step}
 use Rattle.automaton.specs.Explore.{Reached, reached}
@@ -13,7 +12,7 @@ use Rattle.definitions.specs.Bytes.{bit}
 use Rattle.definitions.specs.Policy.{width}
 use Rattle.definitions.specs.Valuation.{valuations}
 use Rattle.definitions.specs.Situation.{image, union, withImage, imageOfSet, policyMachine}
-use Rattle.build.specs.Images.{imageAt, withImageAt, imageOfSetIn, imagesMachine}
+use Rattle.explore.specs.Images.{imageAt, withImageAt, imageOfSetIn, imagesMachine}
 use Rattle.automaton.proofs.Congruence.{fold-below-same, reached-same, table-same}
 
 -- the table has the image of each valuation under each code

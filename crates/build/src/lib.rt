@@ -1,9 +1,4 @@
 // From a policy to its book: the situations that histories reach, alike ones joined, numbered by their earliest history, and written as bytes.
-mod explore;
-mod number;
-mod refine;
-mod write;
-
 ghost use mathlib.Core.Path.{_≡_};
 ghost use Prim.Native.Nat.{_+_, _*_, _≤_};
 ghost use lib.ListN.{length, replicate};
@@ -13,8 +8,7 @@ ghost use Rattle.definitions.specs.Policy.{fields, frame};
 ghost use Rattle.definitions.specs.Book.{bookBytes};
 ghost use Rattle.definitions.specs.Refusal.{fileRefusal};
 ghost use Rattle.definitions.specs.Build.{buildAnswer, buildBuffer};
-ghost use Rattle.build.specs.Rows.{rowsIn};
-ghost use Rattle.build.specs.Classes.{TableIn};
+ghost use Rattle.tables.specs.Rows.{rowsIn, TableIn};
 ghost use Rattle.build.specs.Built.{builtAnswer};
 use policy::shape::Shape;
 
@@ -39,8 +33,8 @@ fn write_joined(
     ensures { λ r. ⌜ now (book .exit) ≡ written (bookBytes (frame (now (policy .entry))) (minimal w (rowsIn (now (raw .entry)) n w))) (now (book .entry)) ⌝ }
 {
     let size = n + 1;
-    refine::refine_all(raw, w, &mut classes[..size], &mut next[..size]);
-    let k = number::number(raw, w, &classes[..size], order, &mut numbers[..size]);
+    join::refine::refine_all(raw, w, &mut classes[..size], &mut next[..size]);
+    let k = join::number::number(raw, w, &classes[..size], order, &mut numbers[..size]);
     write::write_book(book, policy, raw, w, &order[..k], &numbers[..size])
 }
 
@@ -114,7 +108,7 @@ pub fn build(policy: &[u8], book: &mut [u8]) -> Built
     if book.len() < 17284 {
         return Built::Refused(1);
     }
-    let number = policy::file_refusal(policy);
+    let number = policycheck::file_refusal(policy);
     if number != 0 {
         return Built::Refused(number);
     }

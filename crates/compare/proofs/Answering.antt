@@ -1,25 +1,28 @@
 -- The rows of a comparison judged in order, and its answer and its buffer from what was found.
-use mathlib.Core.Path.{_≡_, refl, ap, sym, _∙_}
+use mathlib.Core.Path.{_≡_, ap, sym, _∙_}
 use mathlib.Core.Bool.{Bool, true, false, not}
 use mathlib.Core.List.{List, [], _∷_, _++_}
 use mathlib.Core.Option.{Option}
-use Prim.Native.Nat.{ℕ, zero, suc, _+_, _≤_, _<_}
+use Prim.Native.Nat.{ℕ, suc, _+_, _≤_, _<_}
 use native.Mathlib.Omega.{arith}
 use lib.Dec.{leb}
 use lib.ListN.{length, getD, take, drop, set, length-append}
 use lib.Seq.{drop-cons, set-append-seam, append-snoc, take-at}
-use borrow.Author.Tests.{le-leb, lt-leb, leb-true, eq-eqb, ne-eqb, not-true, not-false}
+use borrow.Author.Tests.{le-leb, lt-leb, leb-true, ne-eqb, not-true, not-false}
 use Rattle.automaton.specs.Below.{sameList}
 use Rattle.automaton.specs.History.{History}
-use Rattle.definitions.specs.Answer.{Answer, answer, refused, given, judge, thenJudge, written, afterCall, historyBytes}
+use Rattle.definitions.specs.Answer.{Answer, answer, refused, given, thenJudge, written, afterCall, historyBytes}
 use Rattle.definitions.specs.Book.{frame, width, states}
 use Rattle.definitions.specs.Refusal.{bookRefusal, row15}
 use Rattle.definitions.specs.Compare.{comparison, compareRefusal, compareAnswer, compareBuffer}
-use Rattle.book.proofs.Passing.{passed}
+use Rattle.automaton.proofs.Counting.{same-list-true}
+use Rattle.definitions.proofs.Tests.{judge-zero, then-judge-zero}
+use Rattle.definitions.proofs.Answers.{refused-answer, given-answer, refused-buffer, given-buffer}
+use Rattle.definitions.proofs.Accepted.{book-passed}
+use Rattle.definitions.proofs.Comparisons.{same-width}
 use Rattle.search.specs.Trail.{historyAt}
 use Rattle.search.proofs.Trails.{history-short}
 use Rattle.compare.specs.Search.{Books, Traced, differenceAt}
-use Rattle.compare.proofs.Frames.{same-width}
 
 -- ---- the rows
 module _ (b d buffer : List ℕ) where
@@ -53,67 +56,45 @@ pub record Passing (b d buffer : List ℕ) : Type 0 where
   pub second : bookRefusal d ≡ 0
   pub frames : sameList (frame b) (frame d) ≡ true
 
-judge-none : (k : ℕ) (t : Bool) (later : ℕ) → judge (suc k) t later ≡ 0 → (t ≡ true) × (later ≡ 0)
-judge-none k true later e = (refl, e)
-judge-none k false later e = absurd (omega arith)
-
-then-none : (first later : ℕ) → thenJudge first later ≡ 0 → (first ≡ 0) × (later ≡ 0)
-then-none zero later e = (refl, e)
-then-none (suc first) later e = absurd (omega (arith, rw (ne-eqb (suc first) 0 (λ q. omega arith)) at e))
-
 pub passing : (b d buffer : List ℕ) → compareRefusal b d buffer ≡ 0 → Passing b d buffer
 unfolding compareRefusal row15
 passing b d buffer e =
-    let room = judge-none 0 (leb 256 (length buffer)) (thenJudge (bookRefusal b) (thenJudge (bookRefusal d) (row15 b d))) e in
-    let first = then-none (bookRefusal b) (thenJudge (bookRefusal d) (row15 b d)) (room .1) in
-    let second = then-none (bookRefusal d) (row15 b d) (first .1) in
+    let room = judge-zero 0 (leb 256 (length buffer)) (thenJudge (bookRefusal b) (thenJudge (bookRefusal d) (row15 b d))) .0 e in
+    let first = then-judge-zero (bookRefusal b) (thenJudge (bookRefusal d) (row15 b d)) .0 (room .1) in
+    let second = then-judge-zero (bookRefusal d) (row15 b d) .0 (first .1) in
     record {
       long = leb-true 256 (length buffer) (room .0);
       first = first .0;
       second = second .0;
-      frames = judge-none 14 (sameList (frame b) (frame d)) 0 (second .1) .0;
+      frames = judge-zero 14 (sameList (frame b) (frame d)) 0 .0 (second .1) .0;
     }
 
 pub passing-books : (b d buffer : List ℕ) → Passing b d buffer → (w n : ℕ) → w ≡ width b → n ≡ states b → Books b d w n
 passing-books b d buffer p w n ew en =
-    let first = passed b (p .first) in
+    let second = book-passed d .0 (p .second) in
     record {
-      first = first;
-      second = passed d (p .second);
+      first = book-passed b .0 (p .first);
+      second = second;
       widthFirst = ew;
-      widthSecond = ew ∙ same-width b d (p .frames) (first .laidOut .fewFields);
+      widthSecond = ew ∙ same-width b d (same-list-true (frame b) (frame d) (p .frames)) (second .layout .fieldsMost);
       statesFirst = en;
     }
 
 -- ---- the answer
-refused-answer : (x : ℕ) → (x ≡ 0 → ⊥) → (found : Option History) → refused x ≡ answer x found
-refused-answer zero n found = absurd (n refl)
-refused-answer (suc x) n found = refl
-
-refused-buffer : (x : ℕ) → (x ≡ 0 → ⊥) → (front buffer : List ℕ) → buffer ≡ afterCall x front buffer
-refused-buffer x n front buffer = rw (ne-eqb x 0 n)
-
-given-answer : (x : ℕ) → x ≡ 0 → (found : Option History) (a : Answer (Option History)) → a ≡ given found → a ≡ answer x found
-given-answer zero e found a ea = ea
-given-answer (suc x) e found a ea = absurd (omega arith)
-
-pub given-buffer : (x : ℕ) → x ≡ 0 → (front buffer : List ℕ) → afterCall x front buffer ≡ written front buffer
-given-buffer x e front buffer = rw (eq-eqb x 0 e)
-
 module _ (b d buffer : List ℕ) (x : ℕ) (ex : x ≡ compareRefusal b d buffer) where
   pub answer-refused : (x ≡ 0 → ⊥) → (refused x ≡ compareAnswer b d buffer) × (buffer ≡ compareBuffer b d buffer)
   unfolding compareAnswer compareBuffer
   answer-refused n = (
     refused-answer x n (comparison b d) ∙ ap (λ (k : ℕ). answer k (comparison b d)) ex,
-    refused-buffer x n (historyBytes (comparison b d)) buffer ∙ ap (λ (k : ℕ). afterCall k (historyBytes (comparison b d)) buffer) ex,
+    refused-buffer x (historyBytes (comparison b d)) buffer n ∙ ap (λ (k : ℕ). afterCall k (historyBytes (comparison b d)) buffer) ex,
   )
 
   pub answer-given : x ≡ 0 → (a : Answer (Option History)) (after : List ℕ) → a ≡ given (comparison b d) → after ≡ written (historyBytes (comparison b d)) buffer
       → (a ≡ compareAnswer b d buffer) × (after ≡ compareBuffer b d buffer)
   unfolding compareAnswer compareBuffer
   answer-given passes a after ea eb = (
-    given-answer x passes (comparison b d) a ea ∙ ap (λ (k : ℕ). answer k (comparison b d)) ex,
-    eb ∙ (sym (given-buffer x passes (historyBytes (comparison b d)) buffer) ∙ ap (λ (k : ℕ). afterCall k (historyBytes (comparison b d)) buffer) ex),
+    ea ∙ given-answer x passes (comparison b d) ∙ ap (λ (k : ℕ). answer k (comparison b d)) ex,
+    eb ∙ (sym (given-buffer x (historyBytes (comparison b d)) buffer passes) ∙ ap (λ (k : ℕ). afterCall k (historyBytes (comparison b d)) buffer) ex),
   )
 
 -- ---- the buffer

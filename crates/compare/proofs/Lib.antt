@@ -1,6 +1,5 @@
 -- Laws that belong to no one function.
 pub mod Answering
 pub mod Filling
-pub mod Frames
 pub mod Returned
 pub mod Searching

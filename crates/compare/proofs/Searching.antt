@@ -17,7 +17,7 @@ use Rattle.automaton.proofs.Comparing.{Queue, search-begun, turn-neither, turn-
 use Rattle.automaton.proofs.Pairs.{difference-is}
 use Rattle.definitions.specs.Book.{states, entry, bookMachine}
 use Rattle.definitions.specs.Compare.{comparison}
-use Rattle.book.proofs.Steps.{step-is-entry, step-low}
+use Rattle.definitions.proofs.BookSteps.{step-is-entry, step-inside}
 use Rattle.search.specs.Trail.{firstAt, secondAt, placed, historyAt}
 use Rattle.search.proofs.Trails.{placed-first, placed-second, placed-length}
 use Rattle.compare.specs.Labels.{labelAt, itself, moved}
@@ -39,17 +39,17 @@ module _ (b d : List ℕ) (w n : ℕ) (B : Books b d w n) where
   second = bookMachine d
 
   of-first : HasStates first (states b)
-  of-first = record { start = record { least = omega arith; most = B .first .laidOut .someState }; steps = step-low b (B .first) }
+  of-first = record { start = record { least = omega arith; most = B .first .layout .statesSome }; steps = step-inside b (B .first) }
 
   of-second : HasStates second (states d)
-  of-second = record { start = record { least = omega arith; most = B .second .laidOut .someState }; steps = step-low d (B .second) }
+  of-second = record { start = record { least = omega arith; most = B .second .layout .statesSome }; steps = step-inside d (B .second) }
 
   -- what answers the comparison is the comparison
   comparison-is : (o : Option History) → Answers first second o → comparison b d ≡ o
   unfolding comparison
   comparison-is o r =
       difference-is first second (states b) (states d) of-first of-second (sym (B .widthFirst) ∙ B .widthSecond) 128 16383
-      (omega (arith, B .second .laidOut .fewStates)) (omega (arith, B .first .laidOut .fewStates, B .second .laidOut .fewStates)) o r
+      (omega (arith, B .second .layout .statesMost)) (omega (arith, B .first .layout .statesMost, B .second .layout .statesMost)) o r
 
 -- ---- the beginning
 module _ (b d : List ℕ) (w n : ℕ) (pairs trail label : List ℕ) (R : Ready b d w n pairs trail label) where
@@ -68,8 +68,8 @@ module _ (b d : List ℕ) (w n : ℕ) (pairs trail label : List ℕ) (R : Ready 
         (placed-first pairs 0 1 1 (omega (arith, R .roomPairs)) .last) (placed-second pairs 0 1 1 (omega (arith, R .roomPairs)) .last)
         (λ u a. own-at u (omega (arith, a .most, R .roomLabel, R .books .statesFirst)))
         (moved-merged (states b + states d) 1 (states b + 1) (n + 1) 1 own (rw length-list-below (omega (arith, R .roomLabel, R .books .statesFirst)))
-        (sym (own-at (states b + 1) (omega (arith, R .roomLabel, R .books .statesFirst, R .books .second .laidOut .someState)) ∙ rw (← R .books .statesFirst)))
-        (sym (own-at 1 (omega (arith, R .roomLabel, R .books .statesFirst, R .books .first .laidOut .someState, R .books .second .laidOut .someState)))));
+        (sym (own-at (states b + 1) (omega (arith, R .roomLabel, R .books .statesFirst, R .books .second .layout .statesSome)) ∙ rw (← R .books .statesFirst)))
+        (sym (own-at 1 (omega (arith, R .roomLabel, R .books .statesFirst, R .books .first .layout .statesSome, R .books .second .layout .statesSome)))));
   })
     where
       own : List ℕ
@@ -126,10 +126,10 @@ module _ (b d : List ℕ) (w n m i c : ℕ) (pairs trail label : List ℕ) (S : 
       steps-right = step-is-entry d (secondAt pairs i) c (right-state .least) (omega (arith, books .widthSecond)) ∙ sym ey
 
       pub low-left : x ≤ n
-      low-left = omega (arith, rw steps-left at (step-low b (books .first) (firstAt pairs i) c), books .statesFirst)
+      low-left = omega (arith, rw steps-left at (step-inside b (books .first) (firstAt pairs i) c), books .statesFirst)
 
       pub low-right : y ≤ states d
-      low-right = rw steps-right at (step-low d (books .second) (secondAt pairs i) c)
+      low-right = rw steps-right at (step-inside d (books .second) (secondAt pairs i) c)
 
       -- in neither book
       pub turned-neither : x ≡ 0 → y ≡ 0 → Searching b d w n m i (c + 1) pairs trail label × (i < m)
@@ -149,9 +149,9 @@ module _ (b d : List ℕ) (w n m i c : ℕ) (pairs trail label : List ℕ) (S : 
             (search-found (bookMachine b) (bookMachine d) (states b) (states d) m i c queue (labelAt label) (S .search) l x y steps-left steps-right one);
         writable = record {
           falls = λ j h. S .search .queue .falls j (omega arith);
-          few = omega (arith, few-pairs, books .statesFirst, books .first .laidOut .fewStates, books .second .laidOut .fewStates);
+          few = omega (arith, few-pairs, books .statesFirst, books .first .layout .statesMost, books .second .layout .statesMost);
           roomTrail = S .ready .roomTrail;
-          byte = omega (arith, books .widthFirst, books .first .laidOut .fewEvents, books .first .laidOut .fewRequests);
+          byte = omega (arith, books .widthFirst, books .first .layout .eventsMost, books .first .layout .requestsMost);
         };
       }
 
@@ -197,7 +197,7 @@ module _ (b d : List ℕ) (w n m i c : ℕ) (pairs trail label : List ℕ) (S : 
             )
           where
             few : m < 254
-            few = omega (arith, few-pairs, books .statesFirst, books .first .laidOut .fewStates, books .second .laidOut .fewStates)
+            few = omega (arith, few-pairs, books .statesFirst, books .first .layout .statesMost, books .second .layout .statesMost)
 
             room-pairs : 2 * m + 1 < length pairs
             room-pairs = omega (arith, few, S .ready .roomPairs)

@@ -9,7 +9,7 @@ use Rattle.automaton.proofs.Parents.{Falls}
 use Rattle.automaton.proofs.Comparing.{Queue, Search}
 use Rattle.definitions.specs.Book.{width, states, bookMachine}
 use Rattle.definitions.specs.Compare.{comparison}
-use Rattle.book.specs.Passed.{Passed}
+use Rattle.definitions.proofs.Accepted.{BookPassed}
 use Rattle.search.specs.Trail.{firstAt, secondAt, historyAt}
 use Rattle.compare.specs.Labels.{labelAt}
 use Rattle.compare.specs.declared.pairs.Tried.{Tried}
@@ -19,8 +19,8 @@ use Rattle.compare.specs.declared.pairs.Spot.the-variants.{Nowhere, At}
 
 -- two books that pass the checks, of one width w, the first with n states
 pub record Books (b d : List ℕ) (w n : ℕ) : Type 0 where
-  pub first : Passed b
-  pub second : Passed d
+  pub first : BookPassed b
+  pub second : BookPassed d
   pub widthFirst : w ≡ width b
   pub widthSecond : w ≡ width d
   pub statesFirst : n ≡ states b

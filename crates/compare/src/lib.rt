@@ -10,10 +10,10 @@ ghost use Rattle.compare.specs.Search.{Traced, differenceAt, spotted, Wr
 mod labels;
 mod pairs;
 
-use book::refusal;
 use book::same_frame;
 use book::states;
 use book::width;
+use bookcheck::refusal;
 use pairs::Spot;
 use pairs::first_difference;
 use search::write_history;

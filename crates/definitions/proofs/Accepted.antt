@@ -245,11 +245,17 @@ module _ (b : List ℕ) where
       go (yes l) = rw (lt-leb (B.events b) c l) (le-leb 1 (B.entry b s c) (some l))
       go (no l) = rw (le-leb (B.events b) c (omega arith))
 
-  entries-true : entriesHold b ≡ true → (s c : ℕ) → 1 ≤ s → s ≤ B.states b → c < B.width b
+  pub entries-true : entriesHold b ≡ true → (s c : ℕ) → 1 ≤ s → s ≤ B.states b → c < B.width b
       → (B.entry b s c ≤ B.states b) × (c < B.events b → 1 ≤ B.entry b s c)
   entries-true e zero c some most l = absurd (omega arith)
   entries-true e (suc i) c some most l =
       entry-true (suc i) c (all-below-at (entryHolds b (suc i)) (B.width b) (all-below-at (rowHolds b) (B.states b) e i most) c l)
+
+  pub entries-hold : ((s c : ℕ) → 1 ≤ s → s ≤ B.states b → c < B.width b → B.entry b s c ≤ B.states b)
+      → ((s c : ℕ) → 1 ≤ s → s ≤ B.states b → c < B.events b → 1 ≤ B.entry b s c) → entriesHold b ≡ true
+  entries-hold most some =
+      all-below (rowHolds b) (B.states b)
+      (λ i l. all-below (entryHolds b (suc i)) (B.width b) (λ c m. entry-holds (suc i) c (most (suc i) c (omega arith) l m) (some (suc i) c (omega arith) l)))
 
   -- ---- what passing gives, and what gives it
   passed : bookRefusal b ≡ 0 → BookPassed b
@@ -273,13 +279,9 @@ module _ (b : List ℕ) where
   unfolding bookRefusal row13 row14
   passes h =
       let begins = both-true (both-true (le-leb 12 (length b) (h .long)) (mark-true b 0x42 0x4F 0x4B .1 (h .mark))) (version-true b .1 (h .version)) in
-      let r14 = judge-zero 13 (entriesHold b) 0 .1 (all-below (rowHolds b) (B.states b) row, refl) in
+      let r14 = judge-zero 13 (entriesHold b) 0 .1 (entries-hold (h .entryMost) (h .eventEntrySome), refl) in
       let r13 = judge-zero 12 (layoutHolds b) (row14 b) .1 (layout-holds (h .layout), r14) in
       judge-zero 11 (leb 12 (length b) && hasMark 0x42 0x4F 0x4B b && hasVersion1 b) (row13 b) .1 (begins, r13)
-    where
-      row : (i : ℕ) → i < B.states b → rowHolds b i ≡ true
-      row i l = all-below (entryHolds b (suc i)) (B.width b)
-          (λ c m. entry-holds (suc i) c (h .entryMost (suc i) c (omega arith) l m) (h .eventEntrySome (suc i) c (omega arith) l))
 
   pub book-passed : (bookRefusal b ≡ 0) ↔ BookPassed b
   book-passed = (passed, passes)

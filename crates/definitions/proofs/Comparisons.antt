@@ -41,7 +41,7 @@ module _ (b d : List ℕ) (same : frame b ≡ frame d) where
       ap (λ (n : ℕ). product n (count b)) (same-byte 1 (omega arith))
       ∙ fold-same 1 (times (count b)) (times (count d)) (fields d) (λ f l q. ap (λ (n : ℕ). q * n) (same-count f (omega arith)))
 
-  same-width : fields d ≤ 4 → width b ≡ width d
+  pub same-width : fields d ≤ 4 → width b ≡ width d
   same-width few = omega (arith, same-byte 0 (omega arith), same-requests few)
 
 -- ---- the comparison

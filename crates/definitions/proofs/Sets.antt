@@ -4,11 +4,11 @@ use mathlib.Core.Path.{_≡_, refl, ap, sym, _∙_}
 use mathlib.Core.Bool.{Bool, cond, true, false, not, true≢false, false≢true, or-false, _&&_, _||_}
 use mathlib.Core.Logic.{_↔_, _⊎_, inl, inr}
 use Prim.Native.Nat.{ℕ, zero, suc, _+_, _-_, _*_, _/_, _%_, _^_, _<_, max}
-use native.Mathlib.Nat.{zero-div, pow-suc, div-eq-of-lt, div-self}
+use native.Mathlib.Nat.{zero-div, one-mul, pow-suc, div-eq-of-lt, div-self}
 use native.Mathlib.Omega.{arith}
-use lib.Dec.{eqb, eqb·suc-zero}
+use lib.Dec.{eqb, eqb·suc-zero, lit<}
 use lib.Bits.{bitOr, or-step, or-shr, or-lt}
-use lib.Pow.{pow-lt, pow-add, pow-pos, shl-shr}
+use lib.Pow.{shl-exact, pow-lt, pow-add, pow-pos, shl-shr}
 use borrow.Author.Tests.{eqb-true, eqb-false, eq-eqb, ne-eqb}
 use Rattle.automaton.specs.Below.{foldBelow, anyBelow}
 use Rattle.automaton.specs.Machine.{isState}
@@ -22,6 +22,10 @@ use Rattle.definitions.proofs.Radix.{low-unique}
 -- valuation v is in the set
 abbrev pub Has : ℕ → ℕ → Type 0
 Has set v = bit set v ≡ true
+
+-- the set of one valuation as the code shifts it, `1 << v` in a word of 64 bits
+pub one-shifted : (v : ℕ) → v < 64 → 1 * 2 ^ v % 2 ^ 64 ≡ 2 ^ v
+one-shifted v h = shl-exact {a = 1} 1 v 64 (lit< tt) (omega arith) ∙ one-mul (2 ^ v)
 
 -- ---- which valuations a set has
 one-of-two : (x y : ℕ) → x < 2 → y < 2 → eqb (max x y) 1 ≡ (eqb x 1 || eqb y 1)

@@ -1,18 +1,25 @@
 -- What the tests of the byte formats mean, and when rows that are judged in order turn nothing down.
-use mathlib.Core.Path.{_≡_, refl}
-use mathlib.Core.Bool.{Bool, true, false, false≢true, _&&_}
+use mathlib.Core.Path.{_≡_, refl, sym, _∙_}
+use mathlib.Core.Bool.{Bool, true, false, false≢true, not, _&&_}
 use mathlib.Core.Logic.{_↔_}
 use mathlib.Core.List.{List}
 use Prim.Native.Nat.{ℕ, zero, suc, _+_, _*_, _≤_}
 use native.Mathlib.Omega.{arith}
 use lib.Dec.{leb, eqb, eqb·suc-zero}
-use borrow.Author.Tests.{leb-true, eqb-true, le-leb, eq-eqb}
+use borrow.Author.Tests.{leb-true, eqb-true, le-leb, eq-eqb, not-true, not-false}
 use Rattle.automaton.proofs.Counting.{and-true}
 use Rattle.definitions.specs.Answer.{judge, thenJudge}
 use Rattle.definitions.specs.Bytes.{byte, hasMark, hasVersion1, within}
 
 pub both-true : {a b : Bool} → a ≡ true → b ≡ true → (a && b) ≡ true
 both-true p q = rw p q
+
+-- `if !test(..)`: the test t, whose answer was r
+pub held : (r t : Bool) → r ≡ t → not r ≡ false → t ≡ true
+held r t e n = sym e ∙ not-false r n
+
+pub failed : (r t : Bool) → r ≡ t → not r ≡ true → t ≡ false
+failed r t e n = sym e ∙ not-true r n
 
 -- no row fits where the first does not and no later one does
 pub judge-zero : (number : ℕ) (passes : Bool) (later : ℕ) → (judge (suc number) passes later ≡ 0) ↔ ((passes ≡ true) × (later ≡ 0))

@@ -14,7 +14,7 @@ use Rattle.definitions.specs.Policy.{variables}
 use Rattle.definitions.specs.Valuation.{bound, valuesOf, worth, valuations, variableIn, changed, withChanged, carriedOut}
 use Rattle.definitions.specs.Situation.{isBelow}
 use Rattle.policy.specs.Sized.{Passed}
-use Rattle.policy.proofs.Products.{product-grows}
+use Rattle.definitions.proofs.Products.{product-grows}
 
 -- ---- a test and a change of one variable
 pub limited : (x most : ℕ) → (most ≡ 0 → ⊥) → isBelow x most ≡ ltb x most

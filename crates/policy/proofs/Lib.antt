@@ -1,4 +1,2 @@
-pub mod Products
 pub mod Parts
 pub mod Checked
-pub mod Rows

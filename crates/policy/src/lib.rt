@@ -1,57 +1,7 @@
-// Reading a policy file: the refusals of rows 2 to 10, the numbers of the file.
+// Reading a policy file: the numbers at its front, the records of its rules, the bounds of its variables. What turns a file down stands in the crate
+// policycheck.
 pub mod counts;
 pub mod header;
-mod layout;
-mod masks;
 pub mod record;
 pub mod shape;
 pub mod valuation;
-mod values;
-
-ghost use mathlib.Core.Path.{_≡_};
-ghost use Rattle.definitions.specs.Refusal.{fileRefusal, row7};
-ghost use Rattle.policy.specs.Sized.{Sized};
-
-// The number of the lowest row from 2 to 10 that turns the file down; 0 if none does.
-pub fn file_refusal(policy: &[u8]) -> usize
-    ensures { λ r. ⌜ r ≡ fileRefusal (now (policy .entry)) ⌝ }
-{
-    if policy.len() < 9 {
-        return 2;
-    }
-    if !layout::mark_holds(policy) {
-        return 3;
-    }
-    if !layout::version_holds(policy) {
-        return 4;
-    }
-    if !layout::ranges_hold(policy) {
-        return 5;
-    }
-    if !layout::length_holds(policy) {
-        return 6;
-    }
-    contents_refusal(policy)
-}
-
-// Rows 7 to 10, of a file whose size the rows before them have settled.
-fn contents_refusal(policy: &[u8]) -> usize
-    requires { ⌜ Sized (now policy) ⌝ }
-    ensures { λ r. ⌜ r ≡ row7 (now (policy .entry)) ⌝ }
-{
-    if !counts::counts_hold(policy) {
-        return 7;
-    }
-    let after_counts = 9 + header::fields(policy);
-    let table = &policy[after_counts..];
-    if !masks::masks_hold(policy, table) {
-        return 8;
-    }
-    if !values::values_hold(policy, table) {
-        return 9;
-    }
-    if !valuation::valuations_hold(policy, table) {
-        return 10;
-    }
-    0
-}

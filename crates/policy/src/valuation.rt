@@ -1,7 +1,6 @@
-// Row 10: the variables' bounds, and the number of valuations.
+// The variables' bounds, and the number of valuations.
 ghost use mathlib.Core.Path.{_≡_};
 ghost use Prim.Native.Nat.{_<_, _≤_, max};
-ghost use lib.Dec.{leb};
 ghost use Rattle.definitions.specs.Policy.{variables};
 ghost use Rattle.definitions.specs.Valuation.{tested, bound, worth, valuations};
 ghost use Rattle.policy.specs.Sized.{TableOf, RuleOf};
@@ -58,11 +57,4 @@ pub fn valuations(policy: &[u8], table: &[u8]) -> usize
     ensures { λ r. ⌜ r ≡ valuations (now (policy .entry)) ⌝ }
 {
     worth(policy, table, header::variables(policy))
-}
-
-pub fn valuations_hold(policy: &[u8], table: &[u8]) -> bool
-    requires { ⌜ TableOf (now policy) (now table) ⌝ }
-    ensures { λ r. ⌜ r ≡ leb (valuations (now (policy .entry))) 64 ⌝ }
-{
-    valuations(policy, table) <= 64
 }

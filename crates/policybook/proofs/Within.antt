@@ -1,14 +1,14 @@
 -- What the code answers is small: the lengths and requests that it tells are those of document 01's answers.
-use mathlib.Core.Path.{_≡_, refl, sym, ap, subst⁻¹}
+use mathlib.Core.Path.{_≡_, sym, ap, subst⁻¹}
 use mathlib.Core.List.{List}
 use mathlib.Core.Option.{Option, some}
-use Prim.Native.Nat.{ℕ, zero, suc, _≤_, _<_}
+use Prim.Native.Nat.{ℕ, _≤_, _<_}
 use native.Mathlib.Omega.{arith}
 use lib.Dec.{leb}
 use lib.ListN.{length, take, length-take}
 use Rattle.automaton.specs.History.{History}
 use Rattle.automaton.proofs.Counting.{same-list-true}
-use Rattle.definitions.specs.Answer.{given, answer}
+use Rattle.definitions.specs.Answer.{given}
 use Rattle.definitions.specs.Book.{frame}
 use Rattle.definitions.specs.Refusal.{policyRefusal, Accepted}
 use Rattle.definitions.specs.Build.{bookOf, buildRefusal, buildAnswer}
@@ -30,13 +30,9 @@ use Rattle.compare.specs.Answer.{comparedAnswer}
 use Rattle.compare.specs.declared.Compared.{Compared}
 use Rattle.compare.specs.declared.Compared.the-variants as Compared
 use Rattle.compare.proofs.Answering as Answering
+use Rattle.definitions.proofs.Answers.{answer-given}
 use Rattle.policybook.proofs.Small.{book-small, SmallFound, conflict-small, missing-small, blocked-small, comparison-small}
 use Rattle.policybook.specs.Within.{BuiltWithin, ComparedWithin, BlockedWithin, FindingWithin, JudgedWithin}
-
--- a value is given only where no row turns the call down
-answer-given : {A : Type 0} (number : ℕ) (a value : A) → given a ≡ answer number value → (number ≡ 0) × (a ≡ value)
-answer-given zero a value e = (refl, cc)
-answer-given (suc number) a value e = let z : _≡_ {A = ℕ} 0 1 = cc in absurd (omega arith)
 
 -- the number of codes that are read off a buffer is the length of the history
 taken-within : (n most : ℕ) (buffer : List ℕ) → length (take n buffer) < most → most ≤ length buffer → (n ≤ most) × (n ≤ length buffer)

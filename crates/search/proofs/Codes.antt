@@ -13,8 +13,8 @@ use Rattle.automaton.proofs.Machines.{step-past}
 use Rattle.automaton.proofs.Exploring.{stateAt, historyAt, reached-sound, reached-leads, reached-few}
 use Rattle.automaton.proofs.Separating.{HasStates, after-within}
 use Rattle.definitions.specs.Book.{width, states, entry}
-use Rattle.book.specs.Passed.{Passed}
-use Rattle.book.proofs.Steps.{some-state, state-some, step-is-entry, step-low}
+use Rattle.definitions.proofs.Accepted.{BookPassed}
+use Rattle.definitions.proofs.BookSteps.{is-state, state-is, step-is-entry, step-inside}
 use Rattle.search.specs.Found.{codesFrom, statesFrom}
 
 -- where the search starts does not change a step
@@ -22,7 +22,7 @@ pub step-anywhere : (b : List ℕ) (k s u t c : ℕ) → step (codesFrom b k s) 
 step-anywhere b k s u zero c = refl
 step-anywhere b k s u (suc t) c = refl
 
-module _ (b : List ℕ) (p : Passed b) (k : ℕ) (few : k ≤ width b) (s : ℕ) where
+module _ (b : List ℕ) (p : BookPassed b) (k : ℕ) (few : k ≤ width b) (s : ℕ) where
   pub codes-entry : (t c : ℕ) → 1 ≤ t → c < k → step (codesFrom b k s) t c ≡ entry b t c
   codes-entry zero c some l = absurd (omega arith)
   codes-entry (suc t) c some l = rw (lt-ltb c k l)
@@ -32,7 +32,7 @@ module _ (b : List ℕ) (p : Passed b) (k : ℕ) (few : k ≤ width b) (s : ℕ)
   codes-low (suc t) c = go (decLt c k)
     where
       go : Dec (c < k) → step (codesFrom b k s) (suc t) c ≤ states b
-      go (yes l) = rw (codes-entry (suc t) c (omega arith) l, ← step-is-entry b (suc t) c (omega arith) (omega arith)) (step-low b p (suc t) c)
+      go (yes l) = rw (codes-entry (suc t) c (omega arith) l, ← step-is-entry b (suc t) c (omega arith) (omega arith)) (step-inside b p (suc t) c)
       go (no l) = rw (step-past (codesFrom b k s) (suc t) c (omega arith)) (omega arith)
 
   module _ (some : 1 ≤ s) (inside : s ≤ states b) where
@@ -40,14 +40,14 @@ module _ (b : List ℕ) (p : Passed b) (k : ℕ) (few : k ≤ width b) (s : ℕ)
     m = codesFrom b k s
 
     begins : isState s ≡ true
-    begins = some-state s (λ e. omega arith)
+    begins = is-state s (omega arith)
 
     -- what is reached is a state of the book
     state-inside : (most i : ℕ) → i < length (reached m most) → (1 ≤ stateAt (reached m most) i) × (stateAt (reached m most) i ≤ states b)
     state-inside most i l =
         let has : HasStates m (states b) = record { start = record { least = some; most = inside }; steps = codes-low } in
         let low = after-within m (states b) has s inside (historyAt (reached m most) i) in
-        (state-some (stateAt (reached m most) i) (reached-sound m most begins .states i l), omega (arith, reached-leads m most begins i l))
+        (state-is (stateAt (reached m most) i) (reached-sound m most begins .states i l), omega (arith, reached-leads m most begins i l))
 
     pub states-few : length (statesFrom b k s) ≤ states b
     unfolding statesFrom

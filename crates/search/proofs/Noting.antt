@@ -17,7 +17,7 @@ use Rattle.automaton.proofs.Exploring.{number-end}
 use Rattle.automaton.proofs.Congruence.{list-below-same}
 use Rattle.automaton.proofs.Parents.{Falls, Stored, trail-same, trail-last, falls-stored}
 use Rattle.definitions.specs.Bytes.{byte}
-use Rattle.book.proofs.Steps.{some-state}
+use Rattle.definitions.proofs.BookSteps.{is-state}
 use Rattle.search.specs.Trail.{firstAt, secondAt, placed, historyAt}
 use Rattle.search.specs.Found.{reachedAt, foundIn, Searching}
 use Rattle.search.proofs.Trails.{placed-first, placed-second, placed-length}
@@ -110,11 +110,11 @@ module _ (n : ℕ) (order trail numbers : List ℕ) (S : Searching n order trail
   noted-none e = (S, sym (ap (λ (s : ℕ). add found s h) e))
 
   pub noted-known : 0 < byte numbers x → Noted n order trail numbers
-  noted-known p = (S, sym (add-known found h x (some-state (numberIn found x) (λ e. omega (arith, S .numbered x inside)))))
+  noted-known p = (S, sym (add-known found h x (is-state (numberIn found x) (omega (arith, S .numbered x inside)))))
 
   module _ (state : x ≡ 0 → ⊥) (none : byte numbers x ≤ 0) where
     is : isState x ≡ true
-    is = some-state x state
+    is = is-state x (omega arith)
 
     absent : numberIn found x ≡ 0
     absent = omega (arith, S .numbered x inside)

@@ -8,13 +8,13 @@ use Rattle.automaton.specs.Machine.{after}
 use Rattle.automaton.specs.Explore.{Reached, unreached}
 use Rattle.definitions.specs.Bytes.{byte}
 use Rattle.definitions.specs.Book.{width, states}
-use Rattle.book.specs.Passed.{Passed}
+use Rattle.definitions.proofs.Accepted.{BookPassed}
 use Rattle.search.specs.Trail.{historyAt}
 use Rattle.search.specs.Found.{codesFrom, statesFrom, reachedAt, Holds}
 use Rattle.search.proofs.Codes.{states-few, states-inside, states-lead}
 use Rattle.search.proofs.Noting.{found-length, found-at}
 
-module _ (b : List ℕ) (p : Passed b) (k : ℕ) (few : k ≤ width b) (s : ℕ) (some : 1 ≤ s) (inside : s ≤ states b)
+module _ (b : List ℕ) (p : BookPassed b) (k : ℕ) (few : k ≤ width b) (s : ℕ) (some : 1 ≤ s) (inside : s ≤ states b)
     (n : ℕ) (order trail : List ℕ) (H : Holds (statesFrom b k s) n order trail) where
   abbrev found : List Reached
   found = statesFrom b k s

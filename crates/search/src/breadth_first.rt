@@ -7,7 +7,7 @@ ghost use lib.ListN.{length};
 ghost use Rattle.automaton.specs.Explore.{add, visit as visited};
 ghost use Rattle.definitions.specs.Book as Book;
 ghost use Rattle.definitions.specs.Bytes.{byte};
-ghost use Rattle.book.specs.Passed.{Passed};
+ghost use Rattle.definitions.proofs.Accepted.{BookPassed};
 ghost use Rattle.search.specs.Trail.{historyAt};
 ghost use Rattle.search.specs.Found.{codesFrom, statesFrom, reachedAt, foundIn, Searching, Holds};
 use crate::trail::put;
@@ -54,7 +54,7 @@ fn visit(
     n: usize,
     i: usize,
 ) -> usize
-    requires { ⌜ Passed (now book) × (width ≡ Book.width (now book)) × (codes ≤ width) ⌝ }
+    requires { ⌜ BookPassed (now book) × (width ≡ Book.width (now book)) × (codes ≤ width) ⌝ }
     requires { ⌜ Searching n (now order) (now trail) (now numbers) × (i < n) ⌝ }
     requires { ⌜ (1 ≤ byte (now order) i) × (byte (now order) i ≤ Book.states (now book)) ⌝ }
     requires { ⌜ length (visited (codesFrom (now book) codes 1) (reachedAt (now order) (now trail) i) codes (foundIn n (now order) (now trail))) ≤ 127 ⌝ }
@@ -83,7 +83,7 @@ pub fn explore(
     order: &mut [u8],
     trail: &mut [u8],
 ) -> usize
-    requires { ⌜ Passed (now book) × (width ≡ Book.width (now book)) × (codes ≤ width) ⌝ }
+    requires { ⌜ BookPassed (now book) × (width ≡ Book.width (now book)) × (codes ≤ width) ⌝ }
     requires { ⌜ (1 ≤ start) × (start ≤ Book.states (now book)) ⌝ }
     requires { ⌜ (128 ≤ length (now order)) × (256 ≤ length (now trail)) ⌝ }
     ensures { λ r. ⌜ Holds (statesFrom (now (book .entry)) codes start) r (now (order .exit)) (now (trail .exit)) ⌝ }

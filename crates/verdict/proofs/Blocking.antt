@@ -20,11 +20,8 @@ use Rattle.definitions.specs.Refusal.{bookRefusal}
 use Rattle.definitions.specs.Demands.{Events, BlockedAfter}
 use Rattle.definitions.specs.Verdict.{someRequest, answered, isBlocked, historyOf}
 use Rattle.definitions.proofs.Accepted.{BookPassed, book-passed}
-use Rattle.definitions.proofs.BookSteps.{is-state, state-is, has-states}
+use Rattle.definitions.proofs.BookSteps.{is-state, state-is, has-states, step-is-entry}
 use Rattle.definitions.proofs.Blocking.{unanswered-to, unanswered-from, blocked-to, blocked-from}
-use Rattle.book.specs.Passed.{Passed}
-use Rattle.book.proofs.Passing.{passed}
-use Rattle.book.proofs.Steps.{step-is-entry}
 use Rattle.search.specs.Trail as Trail
 use Rattle.search.specs.Found.{codesFrom, statesFrom, Holds}
 use Rattle.search.proofs.Reading.{holds-inside, holds-lead}
@@ -36,7 +33,7 @@ same-not s true f g = f refl
 same-not s false f g = g refl
 
 -- ---- what settled marks say
-module _ (b : List ℕ) (p : Passed b) (marks : List ℕ) (M : Marks b marks) (S : Settled b marks) where
+module _ (b : List ℕ) (p : BookPassed b) (marks : List ℕ) (M : Marks b marks) (S : Settled b marks) where
   -- from a state that is not marked events lead to such states
   event-unmarked : (s c : ℕ) → 1 ≤ s → s ≤ states b → marked marks s ≡ false → c < events b → marked marks (entry b s c) ≡ false
   event-unmarked s c least few e l = go (marked marks (entry b s c)) refl
@@ -57,7 +54,7 @@ module _ (b : List ℕ) (p : Passed b) (marks : List ℕ) (M : Marks b marks) (S
   none-answers s least few e (c ∷ es) all =
       let l : c < events b = all 0 (omega arith) in
       let is = step-is-entry b s c least (omega arith) in
-      rw is (none-answers (entry b s c) (p .leadsOn s c least few l) (p .low s c least few (omega arith)) (event-unmarked s c least few e l) es (λ i k. all (suc i) (omega arith)))
+      rw is (none-answers (entry b s c) (p .eventEntrySome s c least few l) (p .entryMost s c least few (omega arith)) (event-unmarked s c least few e l) es (λ i k. all (suc i) (omega arith)))
 
 -- ---- the state that a history leads to
 none-at : (f : ℕ → Bool) (n k : ℕ) → anyBelow n f ≡ false → k < n → f k ≡ false
@@ -94,7 +91,7 @@ module _ (b : List ℕ) (refusal : bookRefusal b ≡ 0) (marks : List ℕ) (M : 
   unmarked-blocks e = (
     here,
     λ es all r l. unanswered-from b (h ++ es) r
-        (later es r ∙ none-at (answered b (after (bookMachine b) s es)) (requests b) r (none-answers b (passed b refusal) marks M S s least few e es all) l),
+        (later es r ∙ none-at (answered b (after (bookMachine b) s es)) (requests b) r (none-answers b (book-passed b .0 refusal) marks M S s least few e es all) l),
   )
 
   blocked-is : isBlocked b s ≡ not (marked marks s)
@@ -111,15 +108,15 @@ module _ (b : List ℕ) (refusal : bookRefusal b ≡ 0) (marks : List ℕ) (M : 
   abbrev L : List Reached
   L = statesFrom b w 1
 
-  p : Passed b
-  p = passed b refusal
+  p : BookPassed b
+  p = book-passed b .0 refusal
 
   blocked-at : (k : ℕ) → k < n → isBlocked b (byte order k) ≡ unmarkedAt marks order k
   blocked-at k l =
       let h = Trail.historyAt trail k in
       let led : after (bookMachine b) 1 h ≡ byte order k =
-      subst (λ (v : ℕ). after (codesFrom b v 1) 1 h ≡ byte order k) ew (holds-lead b p w (omega arith) 1 (omega arith) (p .laidOut .someState) n order trail H k l) in
-      let state = holds-inside b p w (omega arith) 1 (omega arith) (p .laidOut .someState) n order trail H k l in
+      subst (λ (v : ℕ). after (codesFrom b v 1) 1 h ≡ byte order k) ew (holds-lead b p w (omega arith) 1 (omega arith) (p .layout .statesSome) n order trail H k l) in
+      let state = holds-inside b p w (omega arith) 1 (omega arith) (p .layout .statesSome) n order trail H k l in
       subst (λ (s : ℕ). isBlocked b s ≡ not (marked marks s)) led (blocked-is b refusal marks M S h (ap isState led ∙ is-state (byte order k) (state .0)))
 
   blocked-none : n ≤ lowestBelow n (unmarkedAt marks order) → blockedIn b L ≡ none

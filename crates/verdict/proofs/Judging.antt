@@ -3,18 +3,18 @@ use mathlib.Core.Path.{_≡_, refl, ap, _∙_}
 use mathlib.Core.Bool.{_&&_}
 use mathlib.Core.List.{List}
 use mathlib.Core.Option.{Option}
-use Prim.Native.Nat.{ℕ, zero, suc, _≤_, _<_}
-use native.Mathlib.Omega.{arith}
+use Prim.Native.Nat.{ℕ, _≤_, _<_}
 use lib.Dec.{leb}
 use lib.ListN.{length}
-use borrow.Author.Tests.{le-leb, lt-leb, leb-true, ne-eqb}
+use borrow.Author.Tests.{le-leb, lt-leb, leb-true}
 use Rattle.automaton.specs.History.{History}
 use Rattle.automaton.proofs.Counting.{and-true}
-use Rattle.definitions.specs.Answer.{Answer, answer, refused, given, written, afterCall, historyBytes}
+use Rattle.definitions.specs.Answer.{Answer, refused, given, written, historyBytes}
 use Rattle.definitions.specs.Book.{width}
 use Rattle.definitions.specs.Refusal.{bookRefusal}
 use Rattle.definitions.specs.Verdict.{Found, foundHistory, conflict, missing, blocked, Findings, findings, verdictRefusal, verdictAnswer, verdictBuffers}
 use Rattle.definitions.proofs.Tests.{judge-zero}
+use Rattle.definitions.proofs.Answers.{refused-answer, given-answer, refused-buffer}
 use Rattle.search.specs.Found.{statesFrom, foundIn, Holds}
 use Rattle.verdict.specs.Requests.{findingIn}
 use Rattle.verdict.specs.Marks.{blockedIn}
@@ -77,17 +77,6 @@ module _ (b : List ℕ) where
   blocked-is = refl
 
 -- ---- the answer and the buffers
-refused-answer : {A : Type 0} (x : ℕ) → (x ≡ 0 → ⊥) → (value : A) → refused x ≡ answer x value
-refused-answer zero n value = absurd (n refl)
-refused-answer (suc x) n value = refl
-
-given-answer : {A : Type 0} (x : ℕ) → x ≡ 0 → (value : A) (a : Answer A) → a ≡ given value → a ≡ answer x value
-given-answer zero e value a ea = ea
-given-answer (suc x) e value a ea = absurd (omega arith)
-
-refused-buffer : (x : ℕ) → (x ≡ 0 → ⊥) → (front buffer : List ℕ) → buffer ≡ afterCall x front buffer
-refused-buffer x n front buffer = rw (ne-eqb x 0 n)
-
 module _ (b forConflict forMissing forBlocked : List ℕ) where
   module _ (x : ℕ) (ex : x ≡ verdictRefusal b forConflict forMissing forBlocked) where
     pub answer-refused : (x ≡ 0 → ⊥) → (refused x ≡ verdictAnswer b forConflict forMissing forBlocked)
@@ -97,15 +86,15 @@ module _ (b forConflict forMissing forBlocked : List ℕ) where
         rw (← ex) (
           refused-answer x n (findings b),
           rw (
-            ← refused-buffer x n (historyBytes (foundHistory (conflict b))) forConflict,
-            ← refused-buffer x n (historyBytes (foundHistory (missing b))) forMissing,
-            ← refused-buffer x n (historyBytes (blocked b)) forBlocked,
+            ← refused-buffer x (historyBytes (foundHistory (conflict b))) forConflict n,
+            ← refused-buffer x (historyBytes (foundHistory (missing b))) forMissing n,
+            ← refused-buffer x (historyBytes (blocked b)) forBlocked n,
           ),
         )
 
     pub answer-given : x ≡ 0 → (a : Answer Findings) → a ≡ given (findings b) → a ≡ verdictAnswer b forConflict forMissing forBlocked
     unfolding verdictAnswer
-    answer-given passes a ea = rw (← ex) (given-answer x passes (findings b) a ea)
+    answer-given passes a ea = ea ∙ rw (← ex) (given-answer x passes (findings b))
 
   -- the findings are those over the states that a search finds, and the buffers have their histories
   module _ (passes : verdictRefusal b forConflict forMissing forBlocked ≡ 0) (w : ℕ) (ew : w ≡ width b)

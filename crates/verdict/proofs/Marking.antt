@@ -18,8 +18,8 @@ use Rattle.definitions.specs.Bytes.{byte}
 use Rattle.definitions.specs.Book.{events, states, entry}
 use Rattle.definitions.specs.Demands.{Events}
 use Rattle.definitions.specs.Verdict.{someRequest, answered}
-use Rattle.book.specs.Passed.{Passed}
-use Rattle.book.proofs.Steps.{step-is-entry}
+use Rattle.definitions.proofs.Accepted.{BookPassed}
+use Rattle.definitions.proofs.BookSteps.{step-is-entry}
 use Rattle.verdict.specs.Marks.{marked, countMarks, leadsToMark, gains, withGain, AnswersLater, Marks, Settled}
 
 one-state : (t : Bool) → isState (one t) ≡ t
@@ -83,9 +83,9 @@ module _ (marks : List ℕ) (s : ℕ) (room : s < length marks) where
       go (yes q) = rw q marked-new
       go (no q) = marked-other t q ∙ e
 
-module _ (b : List ℕ) (p : Passed b) (marks : List ℕ) (M : Marks b marks) (s : ℕ) (some : 1 ≤ s) (few : s ≤ states b) where
+module _ (b : List ℕ) (p : BookPassed b) (marks : List ℕ) (M : Marks b marks) (s : ℕ) (some : 1 ≤ s) (few : s ≤ states b) where
   inside : s < 128
-  inside = omega (arith, p .laidOut .fewStates)
+  inside = omega (arith, p .layout .statesMost)
 
   -- an event leads to a state from which a request is answered later
   answers-before : (c : ℕ) → c < events b → AnswersLater b (entry b s c) → AnswersLater b s
@@ -99,7 +99,7 @@ module _ (b : List ℕ) (p : Passed b) (marks : List ℕ) (M : Marks b marks) (s
   leads e =
       let hit = any-below-at (leadsToMark b marks s) (events b) (and-true (not (marked marks s)) (anyBelow (events b) (leadsToMark b marks s)) e .1) in
       let c = hit .0 in
-      answers-before c (hit .1) (M .sound (entry b s c) (p .leadsOn s c some few (hit .1)) (p .low s c some few (omega (arith, hit .1))) (hit .2))
+      answers-before c (hit .1) (M .sound (entry b s c) (p .eventEntrySome s c some few (hit .1)) (p .entryMost s c some few (omega (arith, hit .1))) (hit .2))
 
   marks-more : gains b marks s ≡ true → Marks b (set marks s 1)
   marks-more e = record { room = rw length-set (M .room); full = λ t q l a. marked-stays marks s room t (M .full t q l a); sound = λ t q l a. go t q l a (ℕ-discrete t s) }
@@ -147,7 +147,7 @@ pub count-few : (marks : List ℕ) → countMarks marks ≤ 128
 unfolding countMarks
 count-few marks = count-below-le 128 (marked marks)
 
-module _ (b : List ℕ) (p : Passed b) (marks₀ marks : List ℕ) (gained s : ℕ) (S : Spreading b marks₀ marks gained s) where
+module _ (b : List ℕ) (p : BookPassed b) (marks₀ marks : List ℕ) (gained s : ℕ) (S : Spreading b marks₀ marks gained s) where
   pub spreading-few : gained ≤ 128
   spreading-few = omega (arith, S .count, count-few marks)
 

@@ -20,7 +20,6 @@ use Rattle.search.specs.Trail.{historyAt}
 use Rattle.search.specs.Found.{reachedAt, foundIn}
 use Rattle.verdict.specs.Requests.{testOf, someAt, findingIn}
 use Rattle.verdict.specs.declared.requests.Sought.{Sought}
-use Rattle.verdict.specs.declared.finding.Finding.the-variants as Finding
 
 -- ---- lists
 module _ (test : ℕ → Bool) where

@@ -8,7 +8,7 @@ use lib.Dec.{eqb}
 use Rattle.automaton.specs.Below.{anyBelow, lowestBelow}
 use Rattle.definitions.specs.Book.{events, requests, entry}
 use Rattle.definitions.specs.Verdict.{someRequest}
-use Rattle.book.proofs.Steps.{is-state, step-is-entry}
+use Rattle.definitions.proofs.BookSteps.{state-test, step-is-entry}
 use Rattle.verdict.specs.Requests.{soughtBy, testOf}
 use Rattle.verdict.specs.declared.requests.Sought.{Sought}
 use Rattle.verdict.proofs.Lowest.{some-lowest, none-lowest}
@@ -16,7 +16,7 @@ use Rattle.verdict.proofs.Lowest.{some-lowest, none-lowest}
 pub sought-is : (sought : Sought) (b : List ℕ) (s r e x y : ℕ) (t : Bool) → 1 ≤ s → r < requests b → e ≡ events b → x ≡ entry b s (e + 2 * r)
     → y ≡ entry b s (e + 2 * r + 1) → t ≡ soughtBy sought (not (eqb x 0)) (not (eqb y 0)) → testOf sought b s r ≡ t
 sought-is sought b s r e x y t some l he hx hy ht =
-    rw (ht, is-state x, is-state y, hx, hy, he, step-is-entry b s (events b + 2 * r) some (omega arith), step-is-entry b s (events b + 2 * r + 1) some (omega arith))
+    rw (ht, state-test x, state-test y, hx, hy, he, step-is-entry b s (events b + 2 * r) some (omega arith), step-is-entry b s (events b + 2 * r + 1) some (omega arith))
 
 -- r is the lowest of q requests at state s, which was read as t
 module _ (sought : Sought) (b : List ℕ) (s t q r : ℕ) (es : t ≡ s) (eq : q ≡ requests b) (er : r ≡ lowestBelow q (testOf sought b t)) where

@@ -1,6 +1,6 @@
 // The three findings on a book, from its states in the order of their earliest history.
 ghost use mathlib.Core.Path.{_≡_};
-ghost use Prim.Native.Nat.{suc, _≤_};
+ghost use Prim.Native.Nat.{_≤_};
 ghost use lib.ListN.{length};
 ghost use Rattle.automaton.specs.Below.{lowestBelow};
 ghost use Rattle.automaton.proofs.Parents.{Falls};
@@ -8,7 +8,7 @@ ghost use Rattle.definitions.specs.Answer.{written, historyBytes};
 ghost use Rattle.definitions.specs.Book as Book;
 ghost use Rattle.definitions.specs.Refusal.{bookRefusal};
 ghost use Rattle.definitions.specs.Verdict.{foundHistory};
-ghost use Rattle.book.specs.Passed.{Passed};
+ghost use Rattle.definitions.proofs.Accepted.{BookPassed};
 ghost use Rattle.search.specs.Trail.{firstAt};
 ghost use Rattle.search.specs.Found.{foundIn, statesFrom, Holds};
 ghost use Rattle.verdict.specs.Requests.{someAt, StatesIn, findingIn};
@@ -42,7 +42,7 @@ fn first_with(
     n: usize,
     sought: Sought,
 ) -> usize
-    requires { ⌜ Passed (now book) × (width ≡ Book.width (now book)) × (requests ≡ Book.requests (now book)) ⌝ }
+    requires { ⌜ BookPassed (now book) × (width ≡ Book.width (now book)) × (requests ≡ Book.requests (now book)) ⌝ }
     requires { ⌜ (n ≤ length (now order)) × StatesIn (now book) n (now order) ⌝ }
     ensures { λ r. ⌜ r ≡ lowestBelow n (someAt sought (now (book .entry)) (now (order .entry))) ⌝ }
 {
@@ -66,7 +66,7 @@ pub fn find(
     sought: Sought,
     buffer: &mut [u8],
 ) -> Finding
-    requires { ⌜ Passed (now book) × (width ≡ Book.width (now book)) × StatesIn (now book) n (now order) ⌝ }
+    requires { ⌜ BookPassed (now book) × (width ≡ Book.width (now book)) × StatesIn (now book) n (now order) ⌝ }
     requires { ⌜ (n ≤ 127) × (128 ≤ length (now order)) × (256 ≤ length (now trail)) × (128 ≤ length (now buffer)) ⌝ }
     requires { ⌜ Falls n (firstAt (now trail)) ⌝ }
     ensures { λ r. ⌜ foundOf r (now (buffer .exit)) ≡ findingIn sought (now (book .entry)) (foundIn n (now (order .entry)) (now (trail .entry))) ⌝ }

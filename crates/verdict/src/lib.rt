@@ -8,8 +8,8 @@ mod finding;
 mod marks;
 mod requests;
 
-use book::refusal;
 use book::width;
+use bookcheck::refusal;
 pub use finding::Blocked;
 pub use finding::Finding;
 use finding::find;

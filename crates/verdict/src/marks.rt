@@ -7,11 +7,10 @@ ghost use Rattle.automaton.specs.Below.{anyBelow};
 ghost use Rattle.automaton.proofs.Counting.{one};
 ghost use Rattle.definitions.specs.Book as Book;
 ghost use Rattle.definitions.specs.Verdict.{someRequest, answered};
-ghost use Rattle.book.specs.Passed.{Passed};
+ghost use Rattle.definitions.proofs.Accepted.{BookPassed};
 ghost use Rattle.verdict.specs.Marks.{leadsToMark, gains, withGain, countMarks, Marks, Settled};
 use crate::requests::Sought;
 use crate::requests::lowest;
-use automaton::wide;
 use book::entry;
 use book::events;
 use book::requests;
@@ -19,7 +18,7 @@ use book::states;
 
 // 1 for a state that answers some request, else 0.
 fn answers(book: &[u8], width: usize, requests: usize, state: usize) -> u8
-    requires { ⌜ Passed (now book) × (width ≡ Book.width (now book)) × (requests ≡ Book.requests (now book)) ⌝ }
+    requires { ⌜ BookPassed (now book) × (width ≡ Book.width (now book)) × (requests ≡ Book.requests (now book)) ⌝ }
     requires { ⌜ (1 ≤ state) × (state ≤ Book.states (now book)) ⌝ }
     ensures { λ r. ⌜ r ≡ one (someRequest answered (now (book .entry)) state) ⌝ }
 {
@@ -31,7 +30,7 @@ fn answers(book: &[u8], width: usize, requests: usize, state: usize) -> u8
 
 // Marks the states that answer some request.
 fn mark_answering(book: &[u8], width: usize, marks: &mut [u8])
-    requires { ⌜ Passed (now book) × (width ≡ Book.width (now book)) × (128 ≤ length (now marks)) ⌝ }
+    requires { ⌜ BookPassed (now book) × (width ≡ Book.width (now book)) × (128 ≤ length (now marks)) ⌝ }
     ensures { λ _. ⌜ Marks (now (book .entry)) (now (marks .exit)) ⌝ }
 {
     let q = requests(book);
@@ -45,7 +44,7 @@ fn mark_answering(book: &[u8], width: usize, marks: &mut [u8])
 
 // Whether some event leads from a state to a marked one.
 fn leads_to_mark(book: &[u8], width: usize, marks: &[u8], state: usize) -> bool
-    requires { ⌜ Passed (now book) × (width ≡ Book.width (now book)) × (128 ≤ length (now marks)) ⌝ }
+    requires { ⌜ BookPassed (now book) × (width ≡ Book.width (now book)) × (128 ≤ length (now marks)) ⌝ }
     requires { ⌜ (1 ≤ state) × (state ≤ Book.states (now book)) ⌝ }
     ensures { λ r. ⌜ r ≡ anyBelow (Book.events (now (book .entry))) (leadsToMark (now (book .entry)) (now (marks .entry)) state) ⌝ }
 {
@@ -62,7 +61,7 @@ fn leads_to_mark(book: &[u8], width: usize, marks: &[u8], state: usize) -> bool
 
 // Marks a state from which an event leads to a marked one. Gives 1 if it was not marked before and is now, else 0.
 fn spread_to(book: &[u8], width: usize, marks: &mut [u8], state: usize) -> usize
-    requires { ⌜ Passed (now book) × (width ≡ Book.width (now book)) × (128 ≤ length (now marks)) ⌝ }
+    requires { ⌜ BookPassed (now book) × (width ≡ Book.width (now book)) × (128 ≤ length (now marks)) ⌝ }
     requires { ⌜ (1 ≤ state) × (state ≤ Book.states (now book)) ⌝ }
     ensures { λ r. ⌜ r ≡ one (gains (now (book .entry)) (now (marks .entry)) state) ⌝ }
     ensures { λ _. ⌜ now (marks .exit) ≡ withGain (now (book .entry)) (now (marks .entry)) state ⌝ }
@@ -79,7 +78,7 @@ fn spread_to(book: &[u8], width: usize, marks: &mut [u8], state: usize) -> usize
 
 // One round over all states. Gives how many it marks; where it marks none, the marks are settled.
 fn spread(book: &[u8], width: usize, marks: &mut [u8]) -> usize
-    requires { ⌜ Passed (now book) × (width ≡ Book.width (now book)) × Marks (now book) (now marks) ⌝ }
+    requires { ⌜ BookPassed (now book) × (width ≡ Book.width (now book)) × Marks (now book) (now marks) ⌝ }
     ensures { λ r. ⌜ Marks (now (book .entry)) (now (marks .exit)) × (countMarks (now (marks .entry)) + r ≤ countMarks (now (marks .exit))) ⌝ }
     ensures { λ r. ⌜ (r ≡ 0 → Settled (now (book .entry)) (now (marks .exit))) ⌝ }
 {
@@ -95,7 +94,7 @@ fn spread(book: &[u8], width: usize, marks: &mut [u8]) -> usize
 
 // Marks exactly the states from which some request is answered, now or after a list of events.
 pub fn mark(book: &[u8], width: usize, marks: &mut [u8])
-    requires { ⌜ Passed (now book) × (width ≡ Book.width (now book)) × (128 ≤ length (now marks)) ⌝ }
+    requires { ⌜ BookPassed (now book) × (width ≡ Book.width (now book)) × (128 ≤ length (now marks)) ⌝ }
     ensures { λ _. ⌜ Marks (now (book .entry)) (now (marks .exit)) × Settled (now (book .entry)) (now (marks .exit)) ⌝ }
 {
     mark_answering(book, width, marks);

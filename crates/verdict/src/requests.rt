@@ -3,7 +3,7 @@ ghost use mathlib.Core.Path.{_≡_};
 ghost use Prim.Native.Nat.{_≤_};
 ghost use Rattle.automaton.specs.Below.{lowestBelow};
 ghost use Rattle.definitions.specs.Book as Book;
-ghost use Rattle.book.specs.Passed.{Passed};
+ghost use Rattle.definitions.proofs.Accepted.{BookPassed};
 ghost use Rattle.verdict.specs.Requests.{soughtBy, testOf};
 use book::entry;
 use book::events;
@@ -43,7 +43,7 @@ fn is_sought(sought: Sought, accept: bool, reject: bool) -> bool
 
 // The lowest request that is sought at a state, the number of requests if there is none. The caller hands in the width and the number of requests.
 pub fn lowest(book: &[u8], width: usize, requests: usize, state: usize, sought: Sought) -> usize
-    requires { ⌜ Passed (now book) × (width ≡ Book.width (now book)) × (requests ≡ Book.requests (now book)) ⌝ }
+    requires { ⌜ BookPassed (now book) × (width ≡ Book.width (now book)) × (requests ≡ Book.requests (now book)) ⌝ }
     requires { ⌜ (1 ≤ state) × (state ≤ Book.states (now book)) ⌝ }
     ensures { λ r. ⌜ r ≡ lowestBelow requests (testOf sought (now (book .entry)) state) ⌝ }
 {

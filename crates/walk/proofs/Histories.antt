@@ -2,27 +2,22 @@
 use mathlib.Core.Path.{_≡_, refl, ap, sym, _∙_}
 use mathlib.Core.Bool.{Bool, cond, true, false, _&&_}
 use mathlib.Core.List.{List, [], _∷_}
-use Prim.Native.Nat.{ℕ, zero, suc, _≤_}
+use Prim.Native.Nat.{ℕ, _≤_}
 use native.Mathlib.Omega.{arith}
-use lib.Dec.{ltb, eqb, eqb·suc-zero}
+use lib.Dec.{ltb, eqb}
 use borrow.Author.Tests.{eqb-true}
 use Rattle.automaton.specs.History.{History}
 use Rattle.automaton.specs.Machine.{step, after, isState, possible}
 use Rattle.automaton.proofs.Counting.{and-true}
-use Rattle.definitions.specs.Answer.{judge, thenJudge}
+use Rattle.definitions.specs.Answer.{judge}
 use Rattle.definitions.specs.Book.{width, states, bookMachine}
 use Rattle.definitions.specs.Refusal.{bookRefusal}
 use Rattle.definitions.specs.Opened.{stateHolds, stepRefusal, stepState, walkState, walkHistory}
-use Rattle.book.specs.Passed.{Passed}
-use Rattle.book.proofs.Passing.{passed}
-use Rattle.book.proofs.Steps.{some-state, state-some, step-low}
+use Rattle.definitions.proofs.Accepted.{BookPassed, book-passed}
+use Rattle.definitions.proofs.Tests.{judge-zero, then-judge-zero}
+use Rattle.definitions.proofs.BookSteps.{is-state, state-is, step-inside}
 
 -- ---- one step
-none-refuses : (n : ℕ) (test : Bool) → thenJudge n (judge 16 test 0) ≡ 0 → test ≡ true
-none-refuses n true e = refl
-none-refuses zero false e = absurd (omega arith)
-none-refuses (suc n) false e = absurd (omega (arith, rw (eqb·suc-zero n) at e))
-
 module _ (b : List ℕ) (s c : ℕ) where
   taken : eqb (stepRefusal b s c) 0 ≡ true → stepState b s c ≡ step (bookMachine b) s c
   unfolding stepState
@@ -36,7 +31,8 @@ module _ (b : List ℕ) (s c : ℕ) where
   unfolding stepRefusal
   possible-step e =
       and-true (stateHolds b s && ltb c (width b)) (isState (step (bookMachine b) s c))
-      (none-refuses (bookRefusal b) (stateHolds b s && ltb c (width b) && isState (step (bookMachine b) s c)) e) .1
+      (judge-zero 15 (stateHolds b s && ltb c (width b) && isState (step (bookMachine b) s c)) 0 .0
+      (then-judge-zero (bookRefusal b) (judge 16 (stateHolds b s && ltb c (width b) && isState (step (bookMachine b) s c)) 0) .0 e .1) .0) .1
 
 -- ---- a list of steps
 walk-leads : (b : List ℕ) (s : ℕ) (cs : List ℕ) → walkState b s cs ≡ after (bookMachine b) s (walkHistory b s cs)
@@ -54,12 +50,12 @@ walk-leads b s (c ∷ cs) = go (eqb (stepRefusal b s c) 0) refl (walk-leads b (s
 abbrev IsState : List ℕ → ℕ → Type 0
 IsState b s = (1 ≤ s) × (s ≤ states b)
 
-module _ (b : List ℕ) (p : Passed b) where
+module _ (b : List ℕ) (p : BookPassed b) where
   step-within : (s c : ℕ) → IsState b s → IsState b (stepState b s c)
   step-within s c h = go (eqb (stepRefusal b s c) 0) refl
     where
       go : (t : Bool) → eqb (stepRefusal b s c) 0 ≡ t → IsState b (stepState b s c)
-      go true e = rw (taken b s c e) (state-some _ (possible-step b s c (eqb-true (stepRefusal b s c) 0 e)), step-low b p s c)
+      go true e = rw (taken b s c e) (state-is _ (possible-step b s c (eqb-true (stepRefusal b s c) 0 e)), step-inside b p s c)
       go false e = rw (refused b s c e) h
 
   walk-within : (s : ℕ) (cs : List ℕ) → IsState b s → IsState b (walkState b s cs)
@@ -74,13 +70,13 @@ pub record Walked (b : List ℕ) (cs : List ℕ) : Type 0 where
   pub few : walkState b 1 cs ≤ states b
 
 pub walked : (b : List ℕ) → bookRefusal b ≡ 0 → (cs : List ℕ) → Walked b cs
-walked b e cs = go (passed b e)
+walked b e cs = go (book-passed b .0 e)
   where
-    go : Passed b → Walked b cs
-    go p = record { leads = leads; possible = ap isState (sym leads) ∙ some-state (walkState b 1 cs) (λ z. omega (arith, within .0)); some = within .0; few = within .1 }
+    go : BookPassed b → Walked b cs
+    go p = record { leads = leads; possible = ap isState (sym leads) ∙ is-state (walkState b 1 cs) (within .0); some = within .0; few = within .1 }
       where
         leads : walkState b 1 cs ≡ after (bookMachine b) 1 (walkHistory b 1 cs)
         leads = walk-leads b 1 cs
 
         within : IsState b (walkState b 1 cs)
-        within = walk-within b p 1 cs (omega arith, p .laidOut .someState)
+        within = walk-within b p 1 cs (omega arith, p .layout .statesSome)

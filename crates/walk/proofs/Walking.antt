@@ -1,22 +1,19 @@
 -- What the calls on an opened book answer, case by case.
-use mathlib.Core.Path.{_≡_, refl, ap, sym, _∙_}
+use mathlib.Core.Path.{_≡_, ap, sym, _∙_}
 use mathlib.Core.Bool.{not, true, false, _&&_}
 use mathlib.Core.List.{List}
-use Prim.Native.Nat.{ℕ, zero, suc, _+_, _*_, _≤_, _<_}
+use Prim.Native.Nat.{ℕ, _+_, _*_, _≤_, _<_}
 use native.Mathlib.Omega.{arith}
 use lib.Dec.{eqb, ltb}
 use borrow.Author.Tests.{eq-eqb, ne-eqb, lt-ltb}
 use Rattle.automaton.specs.Machine.{step, isState}
-use Rattle.definitions.specs.Answer.{answer, refused, given}
+use Rattle.definitions.specs.Answer.{refused, given}
 use Rattle.definitions.specs.Book.{events, requests, width, entry, bookMachine}
 use Rattle.definitions.specs.Refusal.{bookRefusal}
 use Rattle.definitions.specs.Opened.{toTelling, telling, stateHolds, openRefusal, tellRefusal, tellAnswer, stepRefusal, stepState}
 use Rattle.walk.specs.Walk.{openState}
-use Rattle.book.proofs.Steps.{is-state, some-state, step-is-entry}
-
-answer-refused : {A : Type 0} (n : ℕ) (x : A) → (n ≡ 0 → ⊥) → answer n x ≡ refused n
-answer-refused zero x n = absurd (n refl)
-answer-refused (suc k) x n = refl
+use Rattle.definitions.proofs.Answers.{refused-answer}
+use Rattle.definitions.proofs.BookSteps.{state-test, is-state, step-is-entry}
 
 module _ (b : List ℕ) where
   pub open-refused : (n : ℕ) → n ≡ bookRefusal b → (n ≡ 0 → ⊥) → (n ≡ openRefusal b) × (0 ≡ openState b)
@@ -31,7 +28,7 @@ module _ (b : List ℕ) where
   module _ (s r : ℕ) where
     pub tell-refused : (n : ℕ) → n ≡ bookRefusal b → (n ≡ 0 → ⊥) → refused n ≡ tellAnswer b s r
     unfolding tellAnswer tellRefusal
-    tell-refused n e f = rw (← e, ne-eqb n 0 f) (sym (answer-refused n (telling b s r) f))
+    tell-refused n e f = rw (← e, ne-eqb n 0 f) (refused-answer n f (telling b s r))
 
     pub tell-outside : bookRefusal b ≡ 0 → (stateHolds b s && ltb r (requests b)) ≡ false → refused 16 ≡ tellAnswer b s r
     unfolding tellAnswer tellRefusal
@@ -46,7 +43,7 @@ module _ (b : List ℕ) where
         → toTelling (not (eqb x 0)) (not (eqb y 0)) ≡ telling b s r
     unfolding telling
     tell-by e x y some l he hx hy =
-        rw (is-state x, is-state y, hx, hy, he, step-is-entry b s (events b + 2 * r) some (omega arith), step-is-entry b s (events b + 2 * r + 1) some (omega arith))
+        rw (state-test x, state-test y, hx, hy, he, step-is-entry b s (events b + 2 * r) some (omega arith), step-is-entry b s (events b + 2 * r + 1) some (omega arith))
 
   -- ---- a step
   module _ (s c : ℕ) where
@@ -81,4 +78,4 @@ module _ (b : List ℕ) where
     step-outside e f = stays 16 (number-outside e f) (λ z. omega arith)
 
     pub step-taken : (there : ℕ) → bookRefusal b ≡ 0 → stateHolds b s ≡ true → c < width b → there ≡ step (bookMachine b) s c → (there ≡ 0 → ⊥) → Answers 0 there
-    step-taken there e h l q f = moves there (number-taken e h l (ap isState (sym q) ∙ some-state there f)) q
+    step-taken there e h l q f = moves there (number-taken e h l (ap isState (sym q) ∙ is-state there (omega arith))) q

@@ -4,14 +4,14 @@ ghost use Prim.Native.Nat.{_≤_, _<_};
 ghost use Rattle.definitions.specs.Answer.{given};
 ghost use Rattle.definitions.specs.Book as Book;
 ghost use Rattle.definitions.specs.Opened.{toTelling, telling, stateHolds, openRefusal, tellAnswer, stepRefusal, stepState};
-ghost use Rattle.book.specs.Passed.{LaidOut};
+ghost use Rattle.definitions.proofs.Accepted.{BookLayout};
 ghost use Rattle.walk.specs.Walk.{toldAnswer, openState};
 use book::entry;
 use book::events;
-use book::refusal;
 use book::requests;
 use book::states;
 use book::width;
+use bookcheck::refusal;
 
 // What is told of a request: the number of the row that turns the call down, or what is possible.
 pub enum Told {
@@ -83,7 +83,7 @@ pub fn step(book: &[u8], state: usize, code: usize) -> Stepped
 
 // Whether a number is one of the states, 1 to n.
 fn state_holds(book: &[u8], state: usize) -> bool
-    requires { ⌜ LaidOut (now book) ⌝ }
+    requires { ⌜ BookLayout (now book) ⌝ }
     ensures { λ r. ⌜ r ≡ stateHolds (now (book .entry)) state ⌝ }
 {
     if state < 1 {
@@ -93,7 +93,7 @@ fn state_holds(book: &[u8], state: usize) -> bool
 }
 
 fn tell_inside(book: &[u8], state: usize, request: usize) -> Told
-    requires { ⌜ LaidOut (now book) ⌝ }
+    requires { ⌜ BookLayout (now book) ⌝ }
     requires { ⌜ (1 ≤ state) × (state ≤ Book.states (now book)) × (request < Book.requests (now book)) ⌝ }
     ensures { λ r. ⌜ toldAnswer r ≡ given (telling (now (book .entry)) state request) ⌝ }
 {

@@ -1,14 +1,10 @@
 use Rattle.build.proofs.Building.{refused-by-1, refused-by-file, build-refused}
 use native.Mathlib.Omega.{arith}
-use Prim.Native.Nat.{ℕ, _-_, _+_, _*_, _≤_}
-use mathlib.Core.Path.{_≡_, refl, sym, ap, _∙_}
+use Prim.Native.Nat.{_-_}
+use mathlib.Core.Path.{sym, _∙_}
 use borrow.Author.Needs.{needs}
 use Rattle.build.proofs.build.Statement.{statement}
 use Rattle.build.proofs.build.Tie as tie
-use Rattle.build.proofs.build.Reads as reads
-use Rattle.build.proofs.build.Lts as lts
-use Rattle.build.proofs.build_passed.Reads as build-passed-reads
-use Rattle.policy.proofs.file_refusal.Reads as file-refusal-reads
 
 -- src/lib.rt:83:9
 returns : tie.Need-returns

@@ -1,9 +1,9 @@
 use Rattle.definitions.specs.Refusal.{situations}
 use Rattle.build.proofs.Building.{width-low, valuations-low, images-fit, rows-fit, book-fits, header-read, explored-over, explored-count, explored-rows, explored-table, situations-are, situations-table, refused-by-11, refused-by-none, build-refused, build-given}
 use Rattle.build.proofs.Policies.{ImagesOf}
-use Rattle.build.specs.Rows.{rowsIn}
-use Rattle.build.specs.States.{Reaches}
-use Rattle.build.specs.Images.{imagesMachine}
+use Rattle.tables.specs.Rows.{rowsIn}
+use Rattle.explore.specs.Reaches.{Reaches}
+use Rattle.explore.specs.Images.{imagesMachine}
 use Rattle.definitions.specs.Valuation.{valuations}
 use Rattle.definitions.specs.Policy.{width, frame}
 use Rattle.definitions.specs.Book.{bookBytes}
@@ -11,17 +11,11 @@ use Rattle.definitions.specs.Answer.{written}
 use Rattle.automaton.specs.Join.{minimal}
 use lib.ListN.{length}
 use native.Mathlib.Omega.{arith}
-use Prim.Native.Nat.{ℕ, _-_, _+_, _*_, _≤_}
-use mathlib.Core.Path.{_≡_, refl, sym, ap, _∙_}
+use Prim.Native.Nat.{ℕ, _-_, _*_, _≤_}
+use mathlib.Core.Path.{_≡_, refl, ap, _∙_}
 use borrow.Author.Needs.{needs}
 use Rattle.build.proofs.build_in.Statement.{statement}
 use Rattle.build.proofs.build_in.Tie as tie
-use Rattle.build.proofs.build_in.Reads as reads
-use Rattle.build.proofs.build_in.Lts as lts
-use Rattle.build.proofs.explore.explore.Reads as explore-reads
-use Rattle.build.proofs.write_joined.Reads as write-joined-reads
-use Rattle.images.proofs.fill_images.Reads as fill-images-reads
-use Rattle.policy.proofs.shape.Shape.of.Reads as of-reads
 
 -- HELPERS
 -- the table of images is the policy's
@@ -73,7 +67,7 @@ explore-requires c κs =
     let fits = images-fit (p .args .policy .now) (p .pre .0 .0) in
     let low = rows-fit (p .args .policy .now) (p .pre .0 .0) in
     rw (c .before .before .before .before .before .before .before .of .ensures)
-    ((valuations-low (p .args .policy .now) (p .pre .0 .0), omega (arith, c .before .before .before .before .before .fill-images .kept .1 .1 .0, p .pre .1 .0)), (p .pre .1 .0 .1, omega (arith, p .pre .1 .0)))
+    ((valuations-low (p .args .policy .now) (p .pre .0 .0), width-low (p .args .policy .now) (p .pre .0 .0), omega (arith, c .before .before .before .before .before .fill-images .kept .1 .1 .0, p .pre .1 .0)), (p .pre .1 .0 .1, omega (arith, p .pre .1 .0)))
 
 -- src/lib.rt:79:9
 same-length : tie.Need-same-length

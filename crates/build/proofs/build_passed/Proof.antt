@@ -3,9 +3,6 @@ use mathlib.Core.Path.{refl}
 use borrow.Author.Needs.{needs}
 use Rattle.build.proofs.build_passed.Statement.{statement}
 use Rattle.build.proofs.build_passed.Tie as tie
-use Rattle.build.proofs.build_passed.Reads as reads
-use Rattle.build.proofs.build_passed.Lts as lts
-use Rattle.build.proofs.build_in.Reads as build-in-reads
 
 -- src/lib.rt:97:28
 slice-aggregate-build-in : tie.Need-slice-aggregate-build-in

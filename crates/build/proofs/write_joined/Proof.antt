@@ -1,23 +1,18 @@
 use Rattle.build.proofs.Finishing.{take-replicate, Classed, classed, order-low, order-length, numbers-length, numbers-table, order-below, rows-fit, rows-are}
-use Rattle.build.specs.Numbers.{Numbered}
-use Rattle.build.specs.Rows.{numberedRows}
+use Rattle.join.specs.Numbers.{Numbered}
+use Rattle.write.specs.Rows.{numberedRows}
 use Rattle.definitions.specs.Book.{bookBytes}
 use Rattle.definitions.specs.Policy.{frame}
 use Rattle.definitions.specs.Answer.{written}
 use lib.Seq.{length-take-le, take-at}
 use lib.ListN.{length, take, drop, replicate}
 use native.Mathlib.Omega.{arith}
-use Prim.Native.Nat.{ℕ, _-_, _+_, _*_, _≤_}
+use Prim.Native.Nat.{ℕ, _-_, _+_}
 use mathlib.Core.List.{List, _++_}
-use mathlib.Core.Path.{_≡_, refl, sym, ap, _∙_}
+use mathlib.Core.Path.{_≡_, sym, ap, _∙_}
 use borrow.Author.Needs.{needs}
 use Rattle.build.proofs.write_joined.Statement.{statement}
 use Rattle.build.proofs.write_joined.Tie as tie
-use Rattle.build.proofs.write_joined.Reads as reads
-use Rattle.build.proofs.write_joined.Lts as lts
-use Rattle.build.proofs.number.number.Reads as number-reads
-use Rattle.build.proofs.refine.refine_all.Reads as refine-all-reads
-use Rattle.build.proofs.write.write_book.Reads as write-book-reads
 
 -- HELPERS
 -- the classes of alike states, n + 1 of them

@@ -6,7 +6,7 @@ use denote.Ref.{now}
 use lib.ListN.{replicate}
 use lib.Seq.{length-take-le}
 use Rattle.definitions.specs.Book.{width, states}
-use Rattle.book.specs.Passed.{LaidOut}
+use Rattle.definitions.proofs.Accepted.{BookLayout}
 use Rattle.compare.specs.Search.{Books}
 use Rattle.compare.proofs.Answering.{Passing, passing, passing-books}
 use borrow.Author.Needs.{needs}
@@ -20,15 +20,15 @@ books : (c : tie.Start) (w n : ℕ) → w ≡ width (now (c .args .first)) → n
     → Books (now (c .args .first)) (now (c .args .second)) w n
 books c = passing-books _ _ _ (rows-pass c)
 
-of-first : (c : tie.Start) → LaidOut (now (c .args .first))
-of-first c = books c _ _ refl refl .first .laidOut
+of-first : (c : tie.Start) → BookLayout (now (c .args .first))
+of-first c = books c _ _ refl refl .first .layout
 
-of-second : (c : tie.Start) → LaidOut (now (c .args .second))
-of-second c = books c _ _ refl refl .second .laidOut
+of-second : (c : tie.Start) → BookLayout (now (c .args .second))
+of-second c = books c _ _ refl refl .second .layout
 
 few-numbers : (c : tie.After-states2) → c .before .states .result + c .states2 .result ≤ 254
 few-numbers c =
-    omega (arith, c .before .states .ensures, c .states2 .ensures, of-first (c .before .before .before .before .before) .fewStates, of-second (c .before .before .before .before .before) .fewStates)
+    omega (arith, c .before .states .ensures, c .states2 .ensures, of-first (c .before .before .before .before .before) .statesMost, of-second (c .before .before .before .before .before) .statesMost)
 
 states-requires : tie.Need-states-requires
 states-requires c κs = omega (arith, of-first (c .before .before .before) .exact)

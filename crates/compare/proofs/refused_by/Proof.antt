@@ -1,7 +1,7 @@
 -- `refused_by` meets its contract: the rows are judged in their order.
 use mathlib.Core.Path.{sym, _∙_}
 use native.Mathlib.Omega.{arith}
-use Rattle.book.proofs.Passing.{passed}
+use Rattle.definitions.proofs.Accepted.{book-passed}
 use Rattle.compare.proofs.Answering.{too-short, by-first, by-second, by-frame, by-none}
 use borrow.Author.Needs.{needs}
 use Rattle.compare.proofs.refused_by.Statement.{statement}
@@ -24,9 +24,9 @@ returns-3 c = by-second _ _ _ (omega arith) _ (c .before .before .before .refusa
 
 same-frame-requires : tie.Need-same-frame-requires
 same-frame-requires c κs =
-    let first = passed _ (sym (c .before .before .before .refusal .ensures) ∙ c .before .before .if2 .left) in
-    let second = passed _ (sym (c .before .refusal2 .ensures) ∙ c .if3 .left) in
-    (omega (arith, first .laidOut .exact), omega (arith, second .laidOut .exact))
+    let first = book-passed _ .0 (sym (c .before .before .before .refusal .ensures) ∙ c .before .before .if2 .left) in
+    let second = book-passed _ .0 (sym (c .before .refusal2 .ensures) ∙ c .if3 .left) in
+    (omega (arith, first .layout .exact), omega (arith, second .layout .exact))
 
 returns-4 : tie.Need-returns-4
 returns-4 c =

@@ -2,8 +2,7 @@
 use Prim.Native.Nat.{_≤_}
 use native.Mathlib.Omega.{arith}
 use denote.Ref.{now}
-use Rattle.book.specs.Passed.{Passed}
-use Rattle.book.proofs.Passing.{passed}
+use Rattle.definitions.proofs.Accepted.{BookPassed, book-passed}
 use Rattle.search.proofs.Reading.{holds-few, holds-inside}
 use Rattle.verdict.specs.Requests.{StatesIn}
 use Rattle.verdict.proofs.Judging.{Passing, passing, answer-are, buffers-are}
@@ -14,8 +13,8 @@ use Rattle.verdict.proofs.judge.Tie as tie
 rows : (c : tie.Start) → Passing (now (c .args .book)) (now (c .args .conflict)) (now (c .args .missing)) (now (c .args .blocked))
 rows c = passing _ _ _ _ (c .pre)
 
-pass : (c : tie.Start) → Passed (now (c .args .book))
-pass c = passed _ (rows c .book)
+pass : (c : tie.Start) → BookPassed (now (c .args .book))
+pass c = book-passed _ .0 (rows c .book)
 
 -- the states found are states of the book
 module _ (c : tie.After-explore) where
@@ -23,16 +22,16 @@ module _ (c : tie.After-explore) where
   few =
       let s = c .before .before .before .before .before .before .before .before in
       let p = pass s in
-      omega (arith, p .laidOut .fewStates, holds-few (now (s .args .book)) p (c .before .before .before .width .result) (omega (arith, c .before .before .before .width .ensures)) 1 (omega arith) (p .laidOut .someState) _ _ _ (c .explore .ensures))
+      omega (arith, p .layout .statesMost, holds-few (now (s .args .book)) p (c .before .before .before .width .result) (omega (arith, c .before .before .before .width .ensures)) 1 (omega arith) (p .layout .statesSome) _ _ _ (c .explore .ensures))
 
   inside : StatesIn (now (c .before .before .before .before .before .before .before .before .args .book)) (c .explore .result) (c .explore .last .1 .1 .1 .1 .0)
   inside =
       let s = c .before .before .before .before .before .before .before .before in
       let p = pass s in
-      holds-inside (now (s .args .book)) p (c .before .before .before .width .result) (omega (arith, c .before .before .before .width .ensures)) 1 (omega arith) (p .laidOut .someState) _ _ _ (c .explore .ensures)
+      holds-inside (now (s .args .book)) p (c .before .before .before .width .result) (omega (arith, c .before .before .before .width .ensures)) 1 (omega arith) (p .layout .statesSome) _ _ _ (c .explore .ensures)
 
 width-requires : tie.Need-width-requires
-width-requires c κs = pass (c .before .before .before .before) .laidOut
+width-requires c κs = pass (c .before .before .before .before) .layout
 
 slice-aggregate-explore : tie.Need-slice-aggregate-explore
 slice-aggregate-explore c = search needs
@@ -43,7 +42,7 @@ slice-aggregate-explore-2 c = search needs
 explore-requires : tie.Need-explore-requires
 explore-requires c κs =
     let p = pass (c .before .before .before .before .before .before .before) in
-    ((p, c .before .before .width .ensures, omega arith), ((omega arith, p .laidOut .someState), (search needs, search needs)))
+    ((p, c .before .before .width .ensures, omega arith), ((omega arith, p .layout .statesSome), (search needs, search needs)))
 
 slice-aggregate-find : tie.Need-slice-aggregate-find
 slice-aggregate-find c = search needs

@@ -8,9 +8,9 @@ use borrow.Author.Tests.{le-ltb}
 use Rattle.automaton.specs.Machine.{step, isState}
 use Rattle.definitions.specs.Book.{width, states, bookMachine}
 use Rattle.definitions.specs.Refusal.{bookRefusal}
-use Rattle.book.proofs.Checks.{held, failed, within-true}
-use Rattle.book.proofs.Passing.{passed}
-use Rattle.book.proofs.Steps.{step-is-entry}
+use Rattle.definitions.proofs.Tests.{held, failed, within-true}
+use Rattle.definitions.proofs.Accepted.{book-passed}
+use Rattle.definitions.proofs.BookSteps.{step-is-entry}
 use Rattle.walk.proofs.Walking.{step-refused, step-outside, step-taken}
 use Rattle.walk.proofs.step.Statement.{statement}
 use Rattle.walk.proofs.step.Tie as tie
@@ -19,7 +19,7 @@ passes : (c : tie.Else1) → bookRefusal (c .before .before .before .args .book 
 passes c = sym (c .before .refusal .ensures) ∙ c .if1 .left
 
 is-state : (c : tie.Else2) → (1 ≤ c .before .before .before .before .before .args .state) × (c .before .before .before .before .before .args .state ≤ states (c .before .before .before .before .before .args .book .now))
-is-state c = within-true 1 (c .before .before .before .before .before .args .state) (states (c .before .before .before .before .before .args .book .now)) (held _ _ (c .before .state-holds .ensures) (c .if2 .left))
+is-state c = within-true 1 (c .before .before .before .before .before .args .state) (states (c .before .before .before .before .before .args .book .now)) .0 (held _ _ (c .before .state-holds .ensures) (c .if2 .left))
 
 -- the entry that is read is the step
 taken : (c : tie.After-entry) → step (bookMachine (c .before .before .before .before .before .before .before .before .args .book .now)) (c .before .before .before .before .before .before .before .before .args .state) (c .before .before .before .before .before .before .before .before .args .code) ≡ c .entry .result
@@ -36,7 +36,7 @@ returns c =
     step-refused (a .book .now) (a .state) (a .code) (c .before .refusal .result) (c .before .refusal .ensures) (c .if1 .taken)
 
 state-holds-requires : tie.Need-state-holds-requires
-state-holds-requires c κs = passed (c .before .before .before .args .book .now) (passes c) .laidOut
+state-holds-requires c κs = book-passed (c .before .before .before .args .book .now) .0 (passes c) .layout
 
 returns-2 : tie.Need-returns-2
 returns-2 c =
@@ -44,7 +44,7 @@ returns-2 c =
     step-outside (a .book .now) (a .state) (a .code) (passes (c .before .before)) (simp (failed _ _ (c .before .state-holds .ensures) (c .if2 .taken)))
 
 width-requires : tie.Need-width-requires
-width-requires c κs = passed (c .before .before .before .before .before .args .book .now) (passes (c .before .before)) .laidOut
+width-requires c κs = book-passed (c .before .before .before .before .before .args .book .now) .0 (passes (c .before .before)) .layout
 
 returns-3 : tie.Need-returns-3
 returns-3 c =
@@ -53,7 +53,7 @@ returns-3 c =
 
 entry-requires : tie.Need-entry-requires
 entry-requires c κs =
-    (passed (c .before .before .before .before .before .before .before .args .book .now) (passes (c .before .before .before .before)) .laidOut, ((c .before .width .ensures, c .if3 .left), is-state (c .before .before)))
+    (book-passed (c .before .before .before .before .before .before .before .args .book .now) .0 (passes (c .before .before .before .before)) .layout, ((c .before .width .ensures, c .if3 .left), is-state (c .before .before)))
 
 returns-4 : tie.Need-returns-4
 returns-4 c =

@@ -7,8 +7,8 @@ use borrow.Author.Tests.{le-ltb}
 use Rattle.definitions.specs.Book.{requests, states}
 use Rattle.definitions.specs.Refusal.{bookRefusal}
 use Rattle.definitions.specs.Opened.{stateHolds}
-use Rattle.book.proofs.Checks.{held, failed, within-true}
-use Rattle.book.proofs.Passing.{passed}
+use Rattle.definitions.proofs.Tests.{held, failed, within-true}
+use Rattle.definitions.proofs.Accepted.{book-passed}
 use Rattle.walk.proofs.Walking.{tell-refused, tell-outside, tell-inside}
 use Rattle.walk.proofs.tell.Statement.{statement}
 use Rattle.walk.proofs.tell.Tie as tie
@@ -28,7 +28,7 @@ returns c =
     tell-refused (a .book .now) (a .state) (a .request) (c .before .refusal .result) (c .before .refusal .ensures) (c .if1 .taken)
 
 state-holds-requires : tie.Need-state-holds-requires
-state-holds-requires c κs = passed (c .before .before .before .args .book .now) (passes c) .laidOut
+state-holds-requires c κs = book-passed (c .before .before .before .args .book .now) .0 (passes c) .layout
 
 returns-2 : tie.Need-returns-2
 returns-2 c =
@@ -36,7 +36,7 @@ returns-2 c =
     tell-outside (a .book .now) (a .state) (a .request) (passes (c .before .before)) (simp (failed _ _ (c .before .state-holds .ensures) (c .if2 .taken)))
 
 requests-requires : tie.Need-requests-requires
-requests-requires c κs = let laid = passed (c .before .before .before .before .before .args .book .now) (passes (c .before .before)) .laidOut in (omega arith, omega arith)
+requests-requires c κs = let laid = book-passed (c .before .before .before .before .before .args .book .now) .0 (passes (c .before .before)) .layout in (omega arith, omega arith)
 
 returns-3 : tie.Need-returns-3
 returns-3 c =
@@ -46,8 +46,8 @@ returns-3 c =
 tell-inside-requires : tie.Need-tell-inside-requires
 tell-inside-requires c κs =
     let a = c .before .before .before .before .before .before .before .args in
-    let some = within-true 1 (a .state) (states (a .book .now)) (is-state (c .before .before)) in
-    (passed (a .book .now) (passes (c .before .before .before .before)) .laidOut, (some .0, some .1, omega arith))
+    let some = within-true 1 (a .state) (states (a .book .now)) .0 (is-state (c .before .before)) in
+    (book-passed (a .book .now) .0 (passes (c .before .before .before .before)) .layout, (some .0, some .1, omega arith))
 
 returns-4 : tie.Need-returns-4
 returns-4 c =

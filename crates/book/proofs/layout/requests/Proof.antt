@@ -4,12 +4,13 @@ use native.Mathlib.Omega.{arith}
 use mathlib.Core.Path.{_≡_}
 use borrow.Author.Needs.{needs}
 use Rattle.definitions.specs.Bytes.{byte}
-use Rattle.book.proofs.Places.{Multiplied, multiplied-none, multiplied-more, multiplied-fits}
+use Rattle.definitions.specs.Book.{count}
+use Rattle.definitions.proofs.Products.{Multiplied, multiplied-none, multiplied-more, next-fits}
 use Rattle.book.proofs.layout.requests.Statement.{statement}
 use Rattle.book.proofs.layout.requests.Tie as tie
 
 abbrev Inv-loop : tie.InvT-loop
-Inv-loop book fields product₀ f₀ product f = (f ≤ fields) × Multiplied book product f
+Inv-loop book fields product₀ f₀ product f = (f ≤ fields) × Multiplied (count book) f product
 
 abbrev μ-loop : tie.MeasureT-loop
 μ-loop book fields product₀ f₀ product f = fields - f
@@ -21,7 +22,7 @@ wide-requires : tie.Need-wide-requires Inv-loop μ-loop
 wide-requires c κs = search needs
 
 loop-holds : tie.Need-loop-holds Inv-loop μ-loop
-loop-holds c = (search needs, multiplied-none _)
+loop-holds c = (search needs, multiplied-none (count (c .before .before .before .args .book .now)))
 
 add-wide : tie.Need-add-wide Inv-loop μ-loop
 add-wide c = search needs
@@ -35,7 +36,7 @@ wide-requires-2 c κs = search needs
 mul-product : tie.Need-mul-product Inv-loop μ-loop
 mul-product c =
     let l = c .before .before .before .loop in
-    omega (arith, multiplied-fits _ (l .product) (l .f) (c .wide2 .result) (l .inv .1) (omega arith) (omega arith))
+    omega (arith, next-fits (l .f) (l .product) (c .wide2 .result) (l .inv .1 .1) (omega arith) (omega arith))
 
 add-f : tie.Need-add-f Inv-loop μ-loop
 add-f c = search needs
@@ -46,13 +47,13 @@ loop-less c = search needs
 loop-again : tie.Need-loop-again Inv-loop μ-loop
 loop-again c =
     let l = c .before .before .before .loop in
-    (omega arith, multiplied-more _ (l .product) (l .f) (c .wide2 .result) (l .inv .1) (c .wide2 .ensures .0) (c .wide2 .ensures .1))
+    (omega arith, multiplied-more (count (c .before .before .before .before .before .before .before .args .book .now)) (l .f) (l .product) (c .wide2 .result) (l .inv .1) (c .wide2 .ensures .0) (omega arith))
 
 returns : tie.Need-returns Inv-loop μ-loop
 returns c =
     let l = c .before .loop in
     let e : l .f ≡ byte (c .before .before .before .before .before .args .book .now) 6 = omega arith in
-    rw e at (l .inv .1 .is)
+    rw e at (l .inv .1 .0)
 
 pub requests-spec : {M : Type 1} → statement M
 requests-spec =

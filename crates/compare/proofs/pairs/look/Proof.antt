@@ -25,7 +25,7 @@ entry-requires : tie.Need-entry-requires
 entry-requires c κs =
     let start = c .before .before .before .before .before .before .before in
     let s = left-state _ _ _ _ _ _ _ _ _ _ (start .pre .0) (omega arith) (omega arith) in
-    (start .pre .0 .ready .books .first .laidOut, ((start .pre .0 .ready .books .widthFirst, omega arith), omega (arith, s, c .wide .ensures)))
+    (start .pre .0 .ready .books .first .layout, ((start .pre .0 .ready .books .widthFirst, omega arith), omega (arith, s, c .wide .ensures)))
 
 mul-wide-2 : tie.Need-mul-wide-2
 mul-wide-2 c = search needs
@@ -43,7 +43,7 @@ entry-requires-2 : tie.Need-entry-requires-2
 entry-requires-2 c κs =
     let start = c .before .before .before .before .before .before .before .before .before .before in
     let s = right-state _ _ _ _ _ _ _ _ _ _ (start .pre .0) (omega arith) (omega arith) in
-    (start .pre .0 .ready .books .second .laidOut, ((start .pre .0 .ready .books .widthSecond, omega arith), omega (arith, s, c .wide2 .ensures)))
+    (start .pre .0 .ready .books .second .layout, ((start .pre .0 .ready .books .widthSecond, omega arith), omega (arith, s, c .wide2 .ensures)))
 
 -- where the code leads from the two states of the pair
 module _ (c : tie.After-entry2) where
@@ -105,10 +105,10 @@ returns-4 c =
     turned-same _ _ _ _ _ _ _ _ _ _ (pre .0) (pre .1 .0) (pre .1 .1) _ _ (leads-left o) (leads-right o) (c .before .before .before .before .if1 .left) (c .before .before .before .if3 .left) (c .if4 .taken)
 
 cast-put : tie.Need-cast-put
-cast-put c = let o = c .before .before .before .before .before .before in omega (arith, x-low o, books o .statesFirst, books o .first .laidOut .fewStates)
+cast-put c = let o = c .before .before .before .before .before .before in omega (arith, x-low o, books o .statesFirst, books o .first .layout .statesMost)
 
 cast-put-2 : tie.Need-cast-put-2
-cast-put-2 c = let o = c .before .before .before .before .before .before in omega (arith, y-low o, books o .second .laidOut .fewStates)
+cast-put-2 c = let o = c .before .before .before .before .before .before in omega (arith, y-low o, books o .second .layout .statesMost)
 
 put-requires : tie.Need-put-requires
 put-requires c κs = search needs
@@ -126,7 +126,7 @@ relabel-requires : tie.Need-relabel-requires
 relabel-requires c κs = search needs
 
 add-t16 : tie.Need-add-t16
-add-t16 c = let o = c .before .before .before .before .before .before .before .before .before .before .before .before .before .before .before .before .before in omega (arith, few-pairs _ _ _ _ _ _ _ _ _ _ (start o .pre .0), books o .statesFirst, books o .first .laidOut .fewStates, books o .second .laidOut .fewStates)
+add-t16 c = let o = c .before .before .before .before .before .before .before .before .before .before .before .before .before .before .before .before .before in omega (arith, few-pairs _ _ _ _ _ _ _ _ _ _ (start o .pre .0), books o .statesFirst, books o .first .layout .statesMost, books o .second .layout .statesMost)
 
 same-length : tie.Need-same-length
 same-length c = search needs

@@ -3,7 +3,7 @@ use mathlib.Core.Path.{sym, _∙_}
 use native.Mathlib.Omega.{arith}
 use borrow.Author.Tests.{le-leb, lt-leb}
 use borrow.Author.Needs.{needs}
-use Rattle.definitions.specs.Policy.{ge, lt}
+use Rattle.definitions.specs.Policy.{ge}
 use Rattle.images.proofs.Valuations.{limited}
 use Rattle.images.proofs.effects.test_passes.Statement.{statement}
 use Rattle.images.proofs.effects.test_passes.Tie as tie

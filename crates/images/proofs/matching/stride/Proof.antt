@@ -6,7 +6,7 @@ use native.Mathlib.Omega.{arith}
 use borrow.Author.Needs.{needs}
 use Rattle.definitions.specs.Policy.{fields, count, laterCount}
 use Rattle.policy.proofs.Checked.{count-in-range}
-use Rattle.policy.proofs.Products.{Multiplied, multiplied-none, multiplied-more, next-fits}
+use Rattle.definitions.proofs.Products.{Multiplied, multiplied-none, multiplied-more, next-fits}
 use Rattle.images.proofs.matching.stride.Statement.{statement}
 use Rattle.images.proofs.matching.stride.Tie as tie
 

@@ -7,7 +7,7 @@ use borrow.Author.Needs.{needs}
 use Rattle.automaton.specs.Below.{foldBelow}
 use Rattle.automaton.proofs.Loops.{fold-more}
 use Rattle.definitions.specs.Policy.{rules}
-use Rattle.definitions.specs.Valuation.{tested, greatestTested}
+use Rattle.definitions.specs.Valuation.{greatestTested}
 use Rattle.policy.proofs.Parts.{lent-within, lent-rule, lent-is}
 use Rattle.policy.proofs.valuation.bound.Statement.{statement}
 use Rattle.policy.proofs.valuation.bound.Tie as tie

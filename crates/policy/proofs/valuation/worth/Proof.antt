@@ -4,7 +4,7 @@ use Prim.Native.Nat.{_≤_, _-_, _+_}
 use native.Mathlib.Omega.{arith}
 use borrow.Author.Needs.{needs}
 use Rattle.definitions.specs.Valuation.{valuesOf}
-use Rattle.policy.proofs.Products.{Multiplied, multiplied-none, multiplied-more, next-fits}
+use Rattle.definitions.proofs.Products.{Multiplied, multiplied-none, multiplied-more, next-fits}
 use Rattle.policy.proofs.valuation.worth.Statement.{statement}
 use Rattle.policy.proofs.valuation.worth.Tie as tie
 

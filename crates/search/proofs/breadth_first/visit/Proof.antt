@@ -52,7 +52,7 @@ module _ (c : tie.After-entry Inv-loop μ-loop) where
   low : c .entry .result < 128
   low =
       let p = start .pre .0 .0 in
-      omega (arith, is-entry, p .low state (c .before .before .before .before .before .loop .c) (start .pre .1 .1 .0 .0) (start .pre .1 .1 .0 .1) (omega (arith, start .pre .0, c .before .before .before .before .loop-test .taken)), p .laidOut .fewStates)
+      omega (arith, is-entry, p .entryMost state (c .before .before .before .before .before .loop .c) (start .pre .1 .1 .0 .0) (start .pre .1 .1 .0 .1) (omega (arith, start .pre .0, c .before .before .before .before .loop-test .taken)), p .layout .statesMost)
 
 slice-read-wide : tie.Need-slice-read-wide Inv-loop μ-loop
 slice-read-wide c =
@@ -76,7 +76,7 @@ loop-holds c = (visiting-begun _ _ _ _ _ _ (c .before .before .before .before .b
 entry-requires : tie.Need-entry-requires Inv-loop μ-loop
 entry-requires c κs =
     let s = c .before .before .before .before .before .before .before .before .before .before .before in
-    (s .pre .0 .0 .laidOut, ((s .pre .0 .1, omega arith), omega (arith, s .pre .1 .1 .0, c .before .before .before .before .before .wide .ensures)))
+    (s .pre .0 .0 .layout, ((s .pre .0 .1, omega arith), omega (arith, s .pre .1 .1 .0, c .before .before .before .before .before .wide .ensures)))
 
 note-requires : tie.Need-note-requires Inv-loop μ-loop
 note-requires c κs =

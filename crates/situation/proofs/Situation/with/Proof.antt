@@ -1,6 +1,6 @@
 -- `Situation::with` meets its contract.
 use borrow.Author.Needs.{needs}
-use Rattle.situation.proofs.Bits.{one-shifted}
+use Rattle.definitions.proofs.Sets.{one-shifted}
 use Rattle.situation.proofs.Situation.with.Statement.{statement}
 use Rattle.situation.proofs.Situation.with.Tie as tie
 

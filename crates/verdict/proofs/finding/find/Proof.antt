@@ -1,13 +1,12 @@
 -- `find` meets its contract: the first place with a request that is sought, its lowest such request and its history.
 use native.Mathlib.Omega.{arith}
-use Rattle.definitions.specs.Book as Book
 use Rattle.verdict.proofs.Places.{says-none, says-found}
 use borrow.Author.Needs.{needs}
 use Rattle.verdict.proofs.finding.find.Statement.{statement}
 use Rattle.verdict.proofs.finding.find.Tie as tie
 
 requests-requires : tie.Need-requests-requires
-requests-requires c κs = let laid = c .before .before .before .before .pre .0 .0 .laidOut in (omega (arith, laid .exact), laid .fewFields)
+requests-requires c κs = let laid = c .before .before .before .before .pre .0 .0 .layout in (omega (arith, laid .exact), laid .fieldsMost)
 
 first-with-requires : tie.Need-first-with-requires
 first-with-requires c κs =

@@ -2,16 +2,15 @@
 use Prim.Native.Nat.{_≤_}
 use native.Mathlib.Omega.{arith}
 use denote.Ref.{now}
-use Rattle.book.specs.Passed.{Passed}
-use Rattle.book.proofs.Passing.{passed}
+use Rattle.definitions.proofs.Accepted.{BookPassed, book-passed}
 use Rattle.search.proofs.Reading.{holds-few}
 use Rattle.verdict.proofs.Blocking.{tells-none, tells-blocked}
 use borrow.Author.Needs.{needs}
 use Rattle.verdict.proofs.finding.find_blocked.Statement.{statement}
 use Rattle.verdict.proofs.finding.find_blocked.Tie as tie
 
-pass : (c : tie.Start) → Passed (now (c .args .book))
-pass c = passed _ (c .pre .0 .0)
+pass : (c : tie.Start) → BookPassed (now (c .args .book))
+pass c = book-passed _ .0 (c .pre .0 .0)
 
 -- there are at most as many states as the book has
 few : (c : tie.Start) → c .args .n ≤ 127
@@ -19,8 +18,8 @@ few c =
     let p = pass c in
     omega (
       arith,
-      p .laidOut .fewStates,
-      holds-few (now (c .args .book)) p (c .args .width) (omega (arith, c .pre .0 .1)) 1 (omega arith) (p .laidOut .someState)
+      p .layout .statesMost,
+      holds-few (now (c .args .book)) p (c .args .width) (omega (arith, c .pre .0 .1)) 1 (omega arith) (p .layout .statesSome)
           (c .args .n) (now (c .args .order)) (now (c .args .trail)) (c .pre .0 .2),
     )
 

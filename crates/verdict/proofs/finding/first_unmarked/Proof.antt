@@ -6,7 +6,7 @@ use native.Mathlib.Omega.{arith}
 use borrow.Author.Count.{below-more}
 use Rattle.automaton.specs.Machine.{isState}
 use Rattle.definitions.specs.Bytes.{byte}
-use Rattle.book.proofs.Steps.{some-state}
+use Rattle.definitions.proofs.BookSteps.{is-state}
 use Rattle.verdict.specs.Marks.{unmarkedAt}
 use Rattle.verdict.proofs.Lowest.{NoneBelow, lowest-hit, lowest-end}
 use borrow.Author.Needs.{needs}
@@ -48,7 +48,7 @@ loop-again : tie.Need-loop-again Inv-loop μ-loop
 loop-again c =
     let a = c .before .before .before .before .before .before .before .before .args in
     let l = c .before .before .before .before .before .loop in
-    let is = some-state (byte (a .marks .now) (byte (a .order .now) (l .i))) (rw (c .before .before .wide .ensures .0) at (c .if1 .left)) in
+    let is = is-state (byte (a .marks .now) (byte (a .order .now) (l .i))) (omega (arith, rw (c .before .before .wide .ensures .0) at (c .if1 .left))) in
     (search needs, below-more _ _ (l .inv .1) (ap not is))
 
 returns-2 : tie.Need-returns-2 Inv-loop μ-loop

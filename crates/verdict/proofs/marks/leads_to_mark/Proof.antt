@@ -6,7 +6,8 @@ use native.Mathlib.Omega.{arith}
 use borrow.Author.Count.{below-more}
 use Rattle.automaton.specs.Machine.{isState}
 use Rattle.automaton.proofs.Counting.{any-below}
-use Rattle.book.proofs.Steps.{some-state}
+use Rattle.definitions.specs.Bytes.{byte}
+use Rattle.definitions.proofs.BookSteps.{is-state}
 use Rattle.verdict.specs.Marks.{leadsToMark}
 use Rattle.verdict.proofs.Lowest.{NoneBelow, any-end}
 use borrow.Author.Needs.{needs}
@@ -20,7 +21,7 @@ abbrev μ-loop : tie.MeasureT-loop
 μ-loop book width marks state e c₀ c = e - c
 
 events-requires : tie.Need-events-requires Inv-loop μ-loop
-events-requires c κs = omega (arith, c .before .before .pre .0 .0 .laidOut .exact)
+events-requires c κs = omega (arith, c .before .before .pre .0 .0 .layout .exact)
 
 loop-holds : tie.Need-loop-holds Inv-loop μ-loop
 loop-holds c = (search needs, λ j l. absurd (omega arith))
@@ -28,7 +29,7 @@ loop-holds c = (search needs, λ j l. absurd (omega arith))
 entry-requires : tie.Need-entry-requires Inv-loop μ-loop
 entry-requires c κs =
     let s = c .before .before .before .before .before in
-    (s .pre .0 .0 .laidOut, ((s .pre .0 .1, omega (arith, s .pre .0 .1, c .before .before .events .ensures, c .loop-test .taken)), s .pre .1))
+    (s .pre .0 .0 .layout, ((s .pre .0 .1, omega (arith, s .pre .0 .1, c .before .before .events .ensures, c .loop-test .taken)), s .pre .1))
 
 shared-slice-read-if1 : tie.Need-shared-slice-read-if1 Inv-loop μ-loop
 shared-slice-read-if1 c =
@@ -38,8 +39,8 @@ shared-slice-read-if1 c =
       arith,
       c .before .entry .ensures,
       s .pre .0 .2,
-      p .laidOut .fewStates,
-      p .low (s .args .state) (c .before .before .before .loop .c) (s .pre .1 .0) (s .pre .1 .1) (omega (arith, c .before .before .before .before .events .ensures, c .before .before .loop-test .taken)),
+      p .layout .statesMost,
+      p .entryMost (s .args .state) (c .before .before .before .loop .c) (s .pre .1 .0) (s .pre .1 .1) (omega (arith, c .before .before .before .before .events .ensures, c .before .before .loop-test .taken)),
     )
 
 returns : tie.Need-returns Inv-loop μ-loop
@@ -47,7 +48,7 @@ returns c =
     let a = c .before .before .before .before .before .before .before .before .args in
     let l = c .before .before .before .before .loop in
     let f = leadsToMark (a .book .now) (a .marks .now) (a .state) in
-    let is : f (l .c) ≡ true = rw (← c .before .before .entry .ensures) (some-state _ (c .if1 .taken)) in
+    let is : f (l .c) ≡ true = rw (← c .before .before .entry .ensures) (is-state (byte (a .marks .now) (c .before .before .entry .result)) (omega (arith, c .if1 .taken))) in
     rw (← c .before .before .before .before .before .events .ensures) (sym (any-below f _ (l .c) (c .before .before .before .loop-test .taken) is))
 
 add-c : tie.Need-add-c Inv-loop μ-loop

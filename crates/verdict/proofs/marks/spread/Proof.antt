@@ -22,7 +22,7 @@ turned c =
     spreading-turn _ (c .before .before .before .before .before .before .before .before .before .pre .0) _ _ _ _ (c .before .before .before .before .before .loop .inv .0) (omega (arith, c .before .before .before .before .loop-test .taken, c .before .before .before .before .before .before .states .ensures)) _ _ (e .0) (e .1)
 
 states-requires : tie.Need-states-requires Inv-loop μ-loop
-states-requires c κs = omega (arith, c .before .before .pre .0 .laidOut .exact)
+states-requires c κs = omega (arith, c .before .before .pre .0 .layout .exact)
 
 loop-holds : tie.Need-loop-holds Inv-loop μ-loop
 loop-holds c = (spreading-begun _ _ (c .before .before .before .pre .2), refl)
@@ -37,7 +37,7 @@ add-gained : tie.Need-add-gained Inv-loop μ-loop
 add-gained c = let few = spreading-few _ (c .before .before .before .before .before .before .before .before .before .pre .0) _ _ _ _ (turned c) in omega (arith, few)
 
 add-s : tie.Need-add-s Inv-loop μ-loop
-add-s c = omega (arith, c .before .before .before .before .loop-test .taken, c .before .before .before .before .before .before .states .ensures, c .before .before .before .before .before .before .before .before .before .pre .0 .laidOut .fewStates)
+add-s c = omega (arith, c .before .before .before .before .loop-test .taken, c .before .before .before .before .before .before .states .ensures, c .before .before .before .before .before .before .before .before .before .pre .0 .layout .statesMost)
 
 loop-less : tie.Need-loop-less Inv-loop μ-loop
 loop-less c = search needs

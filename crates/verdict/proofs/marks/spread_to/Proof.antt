@@ -3,17 +3,18 @@ use mathlib.Core.Path.{sym, ap, _∙_}
 use native.Mathlib.Omega.{arith}
 use borrow.Author.Tests.{not-true, not-false}
 use Rattle.automaton.specs.Machine.{isState}
-use Rattle.book.proofs.Steps.{some-state}
+use Rattle.definitions.specs.Bytes.{byte}
+use Rattle.definitions.proofs.BookSteps.{is-state}
 use Rattle.verdict.proofs.Marking.{gain-marked, gain-none, gain-new}
 use borrow.Author.Needs.{needs}
 use Rattle.verdict.proofs.marks.spread_to.Statement.{statement}
 use Rattle.verdict.proofs.marks.spread_to.Tie as tie
 
 slice-read-if1 : tie.Need-slice-read-if1
-slice-read-if1 c = omega (arith, c .before .before .before .pre .0 .2, c .before .before .before .pre .1, c .before .before .before .pre .0 .0 .laidOut .fewStates)
+slice-read-if1 c = omega (arith, c .before .before .before .pre .0 .2, c .before .before .before .pre .1, c .before .before .before .pre .0 .0 .layout .statesMost)
 
 returns : tie.Need-returns
-returns c = let a = c .before .before .before .before .args in gain-marked (a .book .now) (a .marks .now) (a .state) (some-state _ (c .if1 .taken))
+returns c = let a = c .before .before .before .before .args in gain-marked (a .book .now) (a .marks .now) (a .state) (is-state (byte (a .marks .now) (a .state)) (omega (arith, c .if1 .taken)))
 
 leads-to-mark-requires : tie.Need-leads-to-mark-requires
 leads-to-mark-requires c κs = search needs
@@ -25,7 +26,7 @@ returns-2 : tie.Need-returns-2
 returns-2 c = let a = c .before .before .before .before .before .before .before .args in gain-none (a .book .now) (a .marks .now) (a .state) (sym (c .before .leads-to-mark .ensures) ∙ not-true _ (c .if2 .taken))
 
 slice-write-marks : tie.Need-slice-write-marks
-slice-write-marks c = omega (arith, c .before .before .before .before .before .before .before .pre .0 .2, c .before .before .before .before .before .before .before .pre .1, c .before .before .before .before .before .before .before .pre .0 .0 .laidOut .fewStates)
+slice-write-marks c = omega (arith, c .before .before .before .before .before .before .before .pre .0 .2, c .before .before .before .before .before .before .before .pre .1, c .before .before .before .before .before .before .before .pre .0 .0 .layout .statesMost)
 
 same-length-2 : tie.Need-same-length-2
 same-length-2 c = search needs

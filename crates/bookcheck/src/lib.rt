@@ -1,0 +1,171 @@
+// Rows 12 to 14: what turns a book down. Each row has a test of its own.
+ghost use mathlib.Core.Path.{_≡_};
+ghost use Prim.Native.Nat.{_+_, _-_, _≤_};
+ghost use lib.ListN.{length};
+ghost use Rattle.automaton.specs.Below.{allBelow};
+ghost use Rattle.definitions.specs.Bytes.{within as isWithin};
+ghost use Rattle.definitions.specs.Refusal.{countHolds, layoutHolds, entriesHold, bookRefusal};
+ghost use Rattle.bookcheck.specs.Entries.{isMarked, greatest as greatestOf, leadsOn, eventsLeadOn};
+ghost use Rattle.definitions.proofs.Accepted.{BookLayout};
+use automaton::wide;
+use book::events;
+use book::requests;
+use book::states;
+use book::width;
+
+// The number of the lowest row of 12 to 14 that turns the book down, 0 if none does.
+pub fn refusal(book: &[u8]) -> usize
+    ensures { λ r. ⌜ r ≡ bookRefusal (now (book .entry)) ⌝ }
+{
+    if !is_marked(book) {
+        return 12;
+    }
+    if !is_laid_out(book) {
+        return 13;
+    }
+    if !entries_hold(book) {
+        return 14;
+    }
+    0
+}
+
+fn within(low: usize, x: usize, high: usize) -> bool
+    ensures { λ r. ⌜ r ≡ isWithin low x high ⌝ }
+{
+    if x < low {
+        return false;
+    }
+    x <= high
+}
+
+// Row 12: the length of the header, the mark and the version.
+fn is_marked(book: &[u8]) -> bool
+    ensures { λ r. ⌜ r ≡ isMarked (now (book .entry)) ⌝ }
+{
+    if book.len() < 12 {
+        return false;
+    }
+    if book[0] != 0x42 {
+        return false;
+    }
+    if book[1] != 0x4F {
+        return false;
+    }
+    if book[2] != 0x4B {
+        return false;
+    }
+    wide(book[3]) * 256 + wide(book[4]) == 1
+}
+
+// Row 13: the ranges, the absent counts and the exact length.
+fn is_laid_out(book: &[u8]) -> bool
+    requires { ⌜ 12 ≤ length (now book) ⌝ }
+    ensures { λ r. ⌜ r ≡ layoutHolds (now (book .entry)) ⌝ }
+{
+    let e = events(book);
+    if 8 < e {
+        return false;
+    }
+    if !within(1, wide(book[6]), 4) {
+        return false;
+    }
+    if !counts_hold(book) {
+        return false;
+    }
+    let q = requests(book);
+    if 64 < q {
+        return false;
+    }
+    let n = states(book);
+    if !within(1, n, 127) {
+        return false;
+    }
+    book.len() == 12 + n * (e + 2 * q)
+}
+
+// Whether each of the four counts is in its range where it is present, and 0 where it is absent.
+fn counts_hold(book: &[u8]) -> bool
+    requires { ⌜ 12 ≤ length (now book) ⌝ }
+    ensures { λ r. ⌜ r ≡ allBelow 4 (countHolds (now (book .entry))) ⌝ }
+{
+    let mut f = 0;
+    while f < 4 {
+        if !count_holds(book, f) {
+            return false;
+        }
+        f += 1;
+    }
+    true
+}
+
+fn count_holds(book: &[u8], f: usize) -> bool
+    requires { ⌜ (12 ≤ length (now book)) × (f ≤ 3) ⌝ }
+    ensures { λ r. ⌜ r ≡ countHolds (now (book .entry)) f ⌝ }
+{
+    let count = wide(book[7 + f]);
+    if f < wide(book[6]) {
+        return within(1, count, 16);
+    }
+    count == 0
+}
+
+// Row 14. The greatest entry is found without a branch, since every call takes this row.
+fn entries_hold(book: &[u8]) -> bool
+    requires { ⌜ BookLayout (now book) ⌝ }
+    ensures { λ r. ⌜ r ≡ entriesHold (now (book .entry)) ⌝ }
+{
+    let n = states(book);
+    let most = wide(greatest(book));
+    if n < most {
+        return false;
+    }
+    events_lead_on(book)
+}
+
+// The greatest entry of all rows.
+fn greatest(book: &[u8]) -> u8
+    requires { ⌜ 12 ≤ length (now book) ⌝ }
+    ensures { λ r. ⌜ r ≡ greatestOf (now (book .entry)) (length (now (book .entry)) - 12) ⌝ }
+{
+    let mut most = 0;
+    let mut at = 12;
+    while at < book.len() {
+        let x = book[at];
+        most = if most < x { x } else { most };
+        at += 1;
+    }
+    most
+}
+
+// Whether every event leads to a state, in every row.
+fn events_lead_on(book: &[u8]) -> bool
+    requires { ⌜ BookLayout (now book) ⌝ }
+    ensures { λ r. ⌜ r ≡ eventsLeadOn (now (book .entry)) ⌝ }
+{
+    let n = states(book);
+    let w = width(book);
+    let e = events(book);
+    let mut i = 0;
+    while i < n {
+        if !row_leads_on(book, 12 + i * w, e) {
+            return false;
+        }
+        i += 1;
+    }
+    true
+}
+
+// Whether each of the first e entries from byte `at` on is a state.
+fn row_leads_on(book: &[u8], at: usize, e: usize) -> bool
+    requires { ⌜ at + e ≤ length (now book) ⌝ }
+    ensures { λ r. ⌜ r ≡ allBelow e (leadsOn (now (book .entry)) at) ⌝ }
+{
+    let mut c = 0;
+    while c < e {
+        if book[at + c] == 0 {
+            return false;
+        }
+        c += 1;
+    }
+    true
+}

@@ -1,0 +1,179 @@
+// Breadth-first search over the situations of a policy, by its table of images.
+ghost use mathlib.Core.Path.{_≡_};
+ghost use Prim.Native.Nat.{_+_, _*_, _<_, _≤_, max};
+ghost use lib.Dec.{eqb};
+ghost use lib.ListN.{length, take};
+ghost use Rattle.automaton.specs.Below.{placeOf};
+ghost use Rattle.definitions.specs.Answer.{written};
+ghost use Rattle.explore.specs.Images.{emptySets, unions, withImages, imagesOfSet, imagesMachine};
+ghost use Rattle.tables.specs.States.{numberAmong, withState};
+ghost use Rattle.explore.specs.Reaches.{Visited, Reaches};
+use situation::Situation;
+
+// The row gets empty sets only.
+fn clear(next: &mut [u64])
+    ensures { λ r. ⌜ now (next .exit) ≡ emptySets (length (now (next .entry))) ⌝ }
+{
+    let mut c = 0;
+    while c < next.len() {
+        next[c] = Situation::EMPTY.set;
+        c += 1;
+    }
+}
+
+// Each set of the row gets the valuations of the one that stands at its place in `more`. The loop has no branch, so that it is compiled to vector instructions.
+fn unite(next: &mut [u64], more: &[u64])
+    requires { ⌜ length (now next) ≤ length (now more) ⌝ }
+    ensures { λ r. ⌜ now (next .exit) ≡ unions (now (next .entry)) (now (more .entry)) ⌝ }
+{
+    let mut c = 0;
+    while c < next.len() {
+        next[c] = next[c] | more[c];
+        c += 1;
+    }
+}
+
+// The sets of the row, one for each code, get the images of valuation `v` if it is in the situation.
+fn add_images(images: &[u64], w: usize, situation: Situation, v: usize, next: &mut [u64])
+    requires { ⌜ (v < 64) × (v * w + w ≤ length (now images)) × (length (now next) ≡ w) ⌝ }
+    ensures { λ r. ⌜ now (next .exit) ≡ withImages (now (images .entry)) w (situation .set) v (now (next .entry)) ⌝ }
+{
+    if situation.has(v) {
+        let at = v * w;
+        unite(next, &images[at..]);
+    }
+}
+
+// Where each code leads from a situation: the images of its valuations, which are below `valuations`, together.
+fn step_all(images: &[u64], valuations: usize, w: usize, situation: Situation, next: &mut [u64])
+    requires { ⌜ (valuations ≤ 64) × (valuations * w ≤ length (now images)) × (length (now next) ≡ w) ⌝ }
+    ensures { λ r. ⌜ now (next .exit) ≡ imagesOfSet (now (images .entry)) valuations w (situation .set) ⌝ }
+{
+    clear(next);
+    let mut v = 0;
+    while v < valuations {
+        add_images(images, w, situation, v, next);
+        v += 1;
+    }
+}
+
+// The place of `x` among the first `n` found, counted from 1; 0 if it is not there.
+fn place(found: &[u64], n: usize, x: u64) -> usize
+    requires { ⌜ n ≤ length (now found) ⌝ }
+    ensures { λ r. ⌜ r ≡ placeOf (eqb x) (take n (now (found .entry))) ⌝ }
+{
+    let mut i = 0;
+    while i < n {
+        if found[i] == x {
+            return i + 1;
+        }
+        i += 1;
+    }
+    0
+}
+
+// The number of a situation among the first `n` found, where a new one is put in after them; 0 for the empty set.
+fn note(found: &mut [u64], n: usize, x: Situation) -> usize
+    requires { ⌜ n < length (now found) ⌝ }
+    ensures { λ r. ⌜ r ≡ numberAmong (withState (take n (now (found .entry))) (x .set)) (x .set) ⌝ }
+    ensures { λ r. ⌜ now (found .exit) ≡ written (withState (take n (now (found .entry))) (x .set)) (now (found .entry)) ⌝ }
+{
+    if x.is_empty() {
+        return 0;
+    }
+    let number = place(found, n, x.set);
+    if 0 < number {
+        return number;
+    }
+    found[n] = x.set;
+    n + 1
+}
+
+// The greater of two numbers.
+fn greater(a: usize, b: usize) -> usize
+    ensures { λ r. ⌜ r ≡ max a b ⌝ }
+{
+    if a < b {
+        return b;
+    }
+    a
+}
+
+// The codes are tried, in order, from a situation that was found: the row gets the numbers of the situations that they lead to, and new ones are put in
+// after the first `n`. Gives how many are found then. It stops at the 128th: then it gives 128, and neither list is whole. `next` is room to work in.
+fn visit(
+    images: &[u64],
+    valuations: usize,
+    w: usize,
+    found: &mut [u64],
+    n: usize,
+    set: u64,
+    row: &mut [u8],
+    next: &mut [u64],
+) -> usize
+    requires { ⌜ (valuations ≤ 64) × (valuations * w ≤ length (now images)) × (length (now next) ≡ w) ⌝ }
+    requires { ⌜ (n ≤ 127) × (128 ≤ length (now found)) × (w ≤ length (now row)) × (0 < set) ⌝ }
+    ensures { λ r. ⌜ Visited (imagesMachine (now (images .entry)) valuations w) set (take n (now (found .entry)))
+        (now (found .entry)) (now (row .entry)) r (now (found .exit)) (now (row .exit)) ⌝ }
+{
+    step_all(images, valuations, w, Situation { set }, next);
+    let mut k = n;
+    let mut c = 0;
+    while c < w {
+        let number = note(found, k, Situation { set: next[c] });
+        row[c] = number as u8;
+        k = greater(k, number);
+        if 127 < k {
+            return k;
+        }
+        c += 1;
+    }
+    k
+}
+
+// The situations that histories reach, in the order of their earliest history, with the rows of the table of their steps one after another in `raw`.
+// Gives how many there are; 0 if there are over 127, and then nothing is said of what `found` and `raw` hold. `next` is room to work in.
+fn explore_in(
+    images: &[u64],
+    valuations: usize,
+    w: usize,
+    found: &mut [u64],
+    raw: &mut [u8],
+    next: &mut [u64],
+) -> usize
+    requires { ⌜ (valuations ≤ 64) × (valuations * w ≤ length (now images)) × (length (now next) ≡ w) ⌝ }
+    requires { ⌜ (128 ≤ length (now found)) × (127 * w ≤ length (now raw)) ⌝ }
+    ensures { λ r. ⌜ Reaches (imagesMachine (now (images .entry)) valuations w)
+        (now (found .entry)) (now (raw .entry)) r (now (found .exit)) (now (raw .exit)) ⌝ }
+{
+    found[0] = Situation::START.set;
+    let mut n = 1;
+    let mut s = 0;
+    while s < n {
+        let set = found[s];
+        let at = s * w;
+        n = visit(images, valuations, w, found, n, set, &mut raw[at..], next);
+        if 127 < n {
+            return 0;
+        }
+        s += 1;
+    }
+    n
+}
+
+// The same, with an array for room.
+pub fn explore(
+    images: &[u64],
+    valuations: usize,
+    w: usize,
+    found: &mut [u64],
+    raw: &mut [u8],
+) -> usize
+    requires { ⌜ (valuations ≤ 64) × (w ≤ 136) × (valuations * w ≤ length (now images)) ⌝ }
+    requires { ⌜ (128 ≤ length (now found)) × (127 * w ≤ length (now raw)) ⌝ }
+    ensures { λ r. ⌜ Reaches (imagesMachine (now (images .entry)) valuations w)
+        (now (found .entry)) (now (raw .entry)) r (now (found .exit)) (now (raw .exit)) ⌝ }
+{
+    let mut next = [0u64; 136];
+    explore_in(images, valuations, w, found, raw, &mut next[..w])
+}

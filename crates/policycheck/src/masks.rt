@@ -1,0 +1,53 @@
+// Row 8: the masks of the rules.
+ghost use mathlib.Core.Path.{_≡_};
+ghost use mathlib.Core.Bool.{true};
+ghost use Prim.Native.Nat.{_<_};
+ghost use Rattle.definitions.specs.Policy.{fields};
+ghost use Rattle.definitions.specs.Refusal.{countsHold, masksHold};
+ghost use Rattle.policy.specs.Sized.{TableOf, RuleOf};
+ghost use Rattle.policycheck.specs.Record.{partMaskHolds, partMasksHold};
+use policy::header;
+use policy::record;
+
+fn mask_holds(policy: &[u8], rule: &[u8], f: usize) -> bool
+    requires { ⌜ RuleOf (now policy) (now rule) × (countsHold (now policy) ≡ true) × (f < fields (now policy)) ⌝ }
+    ensures { λ r. ⌜ r ≡ partMaskHolds (now (policy .entry)) (now (rule .entry)) f ⌝ }
+{
+    let mask = record::mask(rule, f);
+    if mask < 1 {
+        return false;
+    }
+    mask < 1usize << header::count(policy, f)
+}
+
+fn rule_masks_hold(policy: &[u8], rule: &[u8]) -> bool
+    requires { ⌜ RuleOf (now policy) (now rule) × (countsHold (now policy) ≡ true) ⌝ }
+    ensures { λ r. ⌜ r ≡ partMasksHold (now (policy .entry)) (now (rule .entry)) ⌝ }
+{
+    let n = header::fields(policy);
+    let mut f = 0;
+    while f < n {
+        if !mask_holds(policy, rule, f) {
+            return false;
+        }
+        f += 1;
+    }
+    true
+}
+
+pub fn masks_hold(policy: &[u8], table: &[u8]) -> bool
+    requires { ⌜ TableOf (now policy) (now table) × (countsHold (now policy) ≡ true) ⌝ }
+    ensures { λ r. ⌜ r ≡ masksHold (now (policy .entry)) ⌝ }
+{
+    let size = header::rule_size(policy);
+    let n = header::rules(policy);
+    let mut k = 0;
+    while k < n {
+        let at = k * size;
+        if !rule_masks_hold(policy, &table[at..]) {
+            return false;
+        }
+        k += 1;
+    }
+    true
+}

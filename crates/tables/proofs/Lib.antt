@@ -1,0 +1,5 @@
+pub mod States
+pub mod Searching
+pub mod Buffers
+pub mod Searched
+pub mod TableBytes

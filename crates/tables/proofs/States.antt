@@ -1,0 +1,111 @@
+-- The states of a search as numbers: which of them are found, and with what numbers, does not depend on the histories.
+use mathlib.Core.Path.{_≡_, refl, sym, ap, _∙_}
+use mathlib.Core.Bool.{Bool, cond, true, false≢true}
+use mathlib.Core.List.{List, [], _∷_, _++_, map, map-map, map-append, map-id}
+use Prim.Native.Nat.{ℕ, zero, suc, _<_, _≤_, max}
+use native.Mathlib.Omega.{arith}
+use lib.Dec.{eqb}
+use lib.ListN.{length, getD, length-append, length-map}
+use borrow.Author.Tests.{eq-eqb}
+use Rattle.automaton.specs.Below.{oneOn, placeOf}
+use Rattle.automaton.specs.History.{History}
+use Rattle.automaton.specs.Machine.{Machine, step, isState}
+use Rattle.automaton.specs.Explore.{Reached, isAt, numberIn, add, visit, unreached}
+use Rattle.automaton.proofs.Counting.{place-hit, place-end}
+use Rattle.automaton.proofs.WellFormed.{getD-map-within}
+use Rattle.automaton.proofs.Exploring.{stateAt, front-length}
+use Rattle.automaton.proofs.Turns.{visit-grows}
+use Rattle.tables.specs.States.{stateOf, states, bare, numberAmong, withState, afterCodes}
+
+pub states-bare : (l : List ℕ) → states (map bare l) ≡ l
+states-bare l = map-map stateOf bare l ∙ map-id l
+
+pub length-states : (found : List Reached) → length (states found) ≡ length found
+length-states found = length-map found stateOf
+
+pub state-at : (found : List Reached) (k : ℕ) → k < length found → getD (states found) k 0 ≡ stateAt found k
+state-at found k l = getD-map-within stateOf found k unreached 0 l
+
+place-map : {A B : Type 0} (f : B → Bool) (g : A → B) (xs : List A) → placeOf f (map g xs) ≡ placeOf (λ x. f (g x)) xs
+place-map f g [] = refl
+place-map f g (x ∷ xs) = ap (λ (n : ℕ). cond (f (g x)) 1 (oneOn n)) (place-map f g xs)
+
+-- a number is a place among the states
+pub number-place : (l : List ℕ) (s : ℕ) → isState s ≡ true → numberAmong l s ≡ placeOf (eqb s) l
+number-place l zero p = absurd (false≢true p)
+number-place l (suc s) p = place-map (isAt (suc s)) bare l
+
+pub number-states : (found : List Reached) (s : ℕ) → numberAmong (states found) s ≡ numberIn found s
+number-states found zero = refl
+number-states found (suc s) = number-place (states found) (suc s) refl ∙ place-map (eqb (suc s)) stateOf found
+
+number-cases : (l : List ℕ) (s n : ℕ) → numberAmong l s ≡ n → n ≤ length l
+number-cases l s zero e = omega arith
+number-cases l zero (suc k) e = absurd (omega arith)
+number-cases l (suc s) (suc k) e = place-hit (eqb (suc s)) 0 l k (sym (number-place l (suc s) refl) ∙ e) .0
+
+pub number-low : (l : List ℕ) (s : ℕ) → numberAmong l s ≤ length l
+number-low l s = number-cases l s (numberAmong l s) refl
+
+-- ---- a state is put in
+module _ (l : List ℕ) where
+  pub with-none : withState l 0 ≡ l
+  with-none = states-bare l
+
+  pub with-known : (s : ℕ) → isState (numberAmong l s) ≡ true → withState l s ≡ l
+  with-known zero e = with-none
+  with-known (suc s) e = rw e (states-bare l)
+
+  pub with-new : (s : ℕ) → isState s ≡ true → numberAmong l s ≡ 0 → withState l s ≡ l ++ (s ∷ [])
+  with-new zero p e = absurd (false≢true p)
+  with-new (suc s) p e = rw e (map-append stateOf (map bare l) (bare (suc s) ∷ []) ∙ ap (λ (x : List ℕ). x ++ (suc s ∷ [])) (states-bare l))
+
+  pub number-new : (s : ℕ) → isState s ≡ true → numberAmong l s ≡ 0 → numberAmong (l ++ (s ∷ [])) s ≡ suc (length l)
+  number-new s p e =
+      number-place (l ++ (s ∷ [])) s p ∙ place-end (eqb s) l s (sym (number-place l s p) ∙ e) (eq-eqb s s refl)
+
+  -- what holds of the list as it is, where s is 0 or known, and with s at its end, where s is new, holds of the list with s put in
+  with-cases : (P : List ℕ → Type 0) (s : ℕ) → (s ≡ 0 → P l) → ((k : ℕ) → numberAmong l s ≡ suc k → P l)
+      → (isState s ≡ true → numberAmong l s ≡ 0 → P (l ++ (s ∷ []))) → P (withState l s)
+  with-cases P zero none known new = rw with-none (none refl)
+  with-cases P (suc s) none known new = go (numberAmong l (suc s)) refl
+    where
+      go : (n : ℕ) → numberAmong l (suc s) ≡ n → P (withState l (suc s))
+      go zero e = rw (with-new (suc s) refl e) (new refl e)
+      go (suc k) e = rw (with-known (suc s) (ap isState e)) (known k e)
+
+  -- the number of a state that was put in says how many there are then
+  pub with-length : (s : ℕ) → length (withState l s) ≡ max (length l) (numberAmong (withState l s) s)
+  with-length s = with-cases (λ more. length more ≡ max (length l) (numberAmong more s)) s
+      (λ e. rw e (omega arith))
+      (λ k e. omega (arith, number-low l s))
+      (λ p e. rw (length-append, number-new s p e) (omega arith))
+
+  pub with-few : (s : ℕ) → length (withState l s) ≤ suc (length l)
+  with-few s = with-cases (λ more. length more ≤ suc (length l)) s (λ e. omega arith) (λ k e. omega arith) (λ p e. rw length-append (omega arith))
+
+-- ---- the histories do not matter
+pub add-states : (found : List Reached) (s : ℕ) (h : History) → states (add found s h) ≡ withState (states found) s
+add-states found zero h = sym (with-none (states found))
+add-states found (suc s) h = go (numberIn found (suc s)) refl
+  where
+    go : (n : ℕ) → numberIn found (suc s) ≡ n
+        → states (cond (isState n) found (found ++ (record { state = suc s; history = h } ∷ []))) ≡ withState (states found) (suc s)
+    go zero e = map-append stateOf found (record { state = suc s; history = h } ∷ []) ∙ sym (with-new (states found) (suc s) refl (number-states found (suc s) ∙ e))
+    go (suc k) e = sym (with-known (states found) (suc s) (ap isState (number-states found (suc s) ∙ e)))
+
+module _ (m : Machine) where
+  pub after-more : (s c : ℕ) (l : List ℕ) → afterCodes m s (suc c) l ≡ withState (afterCodes m s c l) (step m s c)
+  after-more s c l = add-states (visit m (bare s) c (map bare l)) (step m s c) ([] ++ (c ∷ []))
+
+  pub visit-states : (t : Reached) (k : ℕ) (found : List Reached) → states (visit m t k found) ≡ afterCodes m (t .state) k (states found)
+  visit-states t zero found = sym (states-bare (states found))
+  visit-states t (suc c) found =
+      add-states (visit m t c found) (step m (t .state) c) (t .history ++ (c ∷ []))
+      ∙ ap (λ (l : List ℕ). withState l (step m (t .state) c)) (visit-states t c found)
+      ∙ sym (after-more (t .state) c (states found))
+
+  pub after-grows : (s : ℕ) (l : List ℕ) (c k : ℕ) → c ≤ k → length (afterCodes m s c l) ≤ length (afterCodes m s k l)
+  after-grows s l c k b =
+      let f = front-length (visit-grows m (bare s) (map bare l) c k b) in
+      omega (arith, length-states (visit m (bare s) c (map bare l)), length-states (visit m (bare s) k (map bare l)))
