@@ -4,18 +4,22 @@
 
 pub mod book;
 pub mod compare;
+pub mod dot;
 pub mod entry;
 pub mod explore;
 pub mod findings;
 pub mod frame;
 pub mod generate;
 pub mod hex;
+pub mod host;
 pub mod join;
 pub mod policy;
+pub mod programs;
 pub mod refusal;
 pub mod shelf;
 pub mod situation;
 pub mod walk;
+pub mod words;
 
 /// A list of codes. Every code is below 136, so it fits into a byte.
 pub type History = Vec<u8>;

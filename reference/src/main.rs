@@ -8,7 +8,8 @@ use reference::book::{self, Book};
 use reference::compare::{self, Comparison};
 use reference::findings::findings;
 use reference::refusal::Refusal;
-use reference::{generate, hex, shelf};
+use reference::words::Names;
+use reference::{dot, generate, hex, host, programs, shelf};
 
 const HELP: &str = "\
 reference book FILE                  print the book of a policy in hexadecimal
@@ -17,10 +18,14 @@ reference compare FILE FILE          compare two books
 reference verdict FILE               print the findings about a book
 reference build FILE OUT             write the book of a policy into the file OUT
 reference generate KIND SEED OUT     write a generated input into the file OUT
+reference host FILE FILE             print what the sample host prints for two policies
+reference dot FILE [NAME ...]        print the book of a policy, or a book, for Graphviz
+reference programs FOLDER            write what the programs are run on and must write, into FOLDER/NAME
 reference help                       print this text
 
 A FILE of - is standard input. An input that is turned down gives the line
-'refused N'; its meaning is written to standard error.
+'refused N'; its meaning is written to standard error. The NAMEs of dot are
+those of the events, then of the requests.
 Kinds:";
 
 fn main() -> ExitCode {
@@ -55,6 +60,9 @@ fn run(arguments: &[&str]) -> Result<String, String> {
         })),
         ["build", file, out] => write_book(file, out),
         ["generate", kind, seed, out] => write_generated(kind, seed, out),
+        ["host", first, second] => Ok(host::host(file(first), file(second))),
+        ["dot", file, names @ ..] => print_dot(&read(file)?, names),
+        ["programs", folder] => write_runs(folder),
         ["help"] => Ok(format!("{HELP} {}\n", generate::KINDS.join(" "))),
         _ => Err(format!(
             "not a command\n\n{HELP} {}",
@@ -111,6 +119,40 @@ fn write_generated(kind: &str, seed: &str, out: &str) -> Result<String, String> 
     let bytes = generate::one(kind, seed)
         .ok_or_else(|| format!("no such kind: {kind}; kinds: {}", generate::KINDS.join(" ")))?;
     write(out, &bytes).map(|()| String::new())
+}
+
+/// A policy or a book, told by its mark.
+fn print_dot(bytes: &[u8], names: &[&str]) -> Result<String, String> {
+    let result = match bytes.starts_with(b"BOK") {
+        true => book::read(bytes),
+        false => book::build(bytes),
+    };
+    let book = match result {
+        Ok(book) => book,
+        Err(refusal) => return Ok(answer(Err(refusal), |()| String::new())),
+    };
+    let names = match names {
+        [] => Names::plain(&book.frame),
+        _ => Names::given(&book.frame, names)
+            .ok_or("as many names are needed as there are events and requests")?,
+    };
+    Ok(dot::dot(&book, &names))
+}
+
+fn file(name: &str) -> host::File<'_> {
+    host::File {
+        name,
+        content: fs::read(name),
+    }
+}
+
+fn write_runs(folder: &str) -> Result<String, String> {
+    for run in programs::runs() {
+        let program = format!("{folder}/{}", run.program);
+        write(&format!("{program}/stdin"), &run.stdin)?;
+        write(&format!("{program}/stdout"), run.stdout.as_bytes())?;
+    }
+    Ok(String::new())
 }
 
 fn read(file: &str) -> Result<Vec<u8>, String> {
