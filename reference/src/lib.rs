@@ -14,6 +14,7 @@ pub mod hex;
 pub mod host;
 pub mod join;
 pub mod policy;
+pub mod programs;
 pub mod refusal;
 pub mod shelf;
 pub mod situation;

@@ -9,7 +9,7 @@ use reference::compare::{self, Comparison};
 use reference::findings::findings;
 use reference::refusal::Refusal;
 use reference::words::Names;
-use reference::{dot, generate, hex, host, shelf};
+use reference::{dot, generate, hex, host, programs, shelf};
 
 const HELP: &str = "\
 reference book FILE                  print the book of a policy in hexadecimal
@@ -20,6 +20,7 @@ reference build FILE OUT             write the book of a policy into the file OU
 reference generate KIND SEED OUT     write a generated input into the file OUT
 reference host FILE FILE             print what the sample host prints for two policies
 reference dot FILE [NAME ...]        print the book of a policy, or a book, for Graphviz
+reference programs FOLDER            write what the programs are run on and must write, into FOLDER/NAME
 reference help                       print this text
 
 A FILE of - is standard input. An input that is turned down gives the line
@@ -61,6 +62,7 @@ fn run(arguments: &[&str]) -> Result<String, String> {
         ["generate", kind, seed, out] => write_generated(kind, seed, out),
         ["host", first, second] => Ok(host::host(file(first), file(second))),
         ["dot", file, names @ ..] => print_dot(&read(file)?, names),
+        ["programs", folder] => write_runs(folder),
         ["help"] => Ok(format!("{HELP} {}\n", generate::KINDS.join(" "))),
         _ => Err(format!(
             "not a command\n\n{HELP} {}",
@@ -142,6 +144,15 @@ fn file(name: &str) -> host::File<'_> {
         name,
         content: fs::read(name),
     }
+}
+
+fn write_runs(folder: &str) -> Result<String, String> {
+    for run in programs::runs() {
+        let program = format!("{folder}/{}", run.program);
+        write(&format!("{program}/stdin"), &run.stdin)?;
+        write(&format!("{program}/stdout"), run.stdout.as_bytes())?;
+    }
+    Ok(String::new())
 }
 
 fn read(file: &str) -> Result<Vec<u8>, String> {

@@ -17,11 +17,10 @@ use Rattle.definitions.specs.Valuation.{valuations}
 use Rattle.definitions.specs.Book.{frame}
 use Rattle.definitions.specs.Refusal.{rangesHold, countsHold, masksHold, valuesHold, row10, row9, row8, row7, row6, row5, row4, row3, fileRefusal, situations, row11, policyRefusal, Accepted, layoutHolds, entriesHold, row14, row13, bookRefusal, row15}
 use Rattle.definitions.specs.Build.{bookOf, buildRefusal}
-use Rattle.definitions.specs.Verdict.{Found, conflict, missing, blocked, verdictRefusal}
+use Rattle.definitions.specs.Verdict.{verdictRefusal}
 use Rattle.definitions.specs.Compare.{comparison, compareRefusal}
-use Rattle.definitions.specs.Demands.{VerdictIsRight}
-use Rattle.definitions.proofs.Accepted.{BookLayout, book-passed}
-use Rattle.definitions.proofs.Demands.{demand2, verdict-right, compare-right}
+use Rattle.definitions.proofs.Accepted.{book-passed}
+use Rattle.definitions.proofs.Demands.{demand2, compare-right}
 
 -- ---- a book has at most 17,284 bytes
 pub book-small : (p : List ℕ) → Accepted p → length (bookOf p) ≤ 17284
@@ -29,28 +28,6 @@ book-small p accepted =
     let right = demand2 p accepted in
     let layout = book-passed (bookOf p) .0 (right .passes) .layout in
     omega (arith, right .size, mul-le-mul (layout .statesMost) (layout .widthMost))
-
--- ---- a finding's history has fewer codes than the book has states, and its request is one of the book's
-abbrev pub SmallFound : Found → Type 0
-SmallFound t = (length (t .history) < 127) × (t .request < 64)
-
-module _ (b : List ℕ) (passes : bookRefusal b ≡ 0) where
-  layout : BookLayout b
-  layout = book-passed b .0 passes .layout
-
-  right : VerdictIsRight b
-  right = verdict-right b passes
-
-  pub conflict-small : (t : Found) → conflict b ≡ some t → SmallFound t
-  conflict-small t e =
-      (omega (arith, right .conflict-short t e, layout .statesMost), omega (arith, right .findings .conflict-right .request t e .0, layout .requestsMost))
-
-  pub missing-small : (t : Found) → missing b ≡ some t → SmallFound t
-  missing-small t e =
-      (omega (arith, right .missing-short t e, layout .statesMost), omega (arith, right .findings .missing-right .request t e .0, layout .requestsMost))
-
-  pub blocked-small : (h : History) → blocked b ≡ some h → length h < 127
-  blocked-small h e = omega (arith, right .blocked-short h e, layout .statesMost)
 
 -- ---- a difference has fewer codes than the two books have states
 pub comparison-small : (b d : List ℕ) → bookRefusal b ≡ 0 → bookRefusal d ≡ 0 → frame b ≡ frame d → (h : History) → comparison b d ≡ some h → length h < 254

@@ -13,7 +13,8 @@ use Rattle.definitions.specs.Build.{bookOf, buildRefusal, buildAnswer}
 use Rattle.definitions.specs.Verdict.{Found, conflict, missing, blocked, findings, verdictRefusal, verdictAnswer}
 use Rattle.definitions.specs.Compare.{comparison, compareRefusal, compareAnswer}
 use Rattle.policybook.specs.Packing.{packed, bookLength, historyLength, blockedValue, foundValue, findingsValue}
-use Rattle.policybook.proofs.Small.{SmallFound, conflict-small, missing-small, blocked-small, build-refusal-small, verdict-refusal-small, compare-refusal-small}
+use Rattle.verdict.proofs.Small.{SmallFound, conflict-small, missing-small, blocked-small}
+use Rattle.policybook.proofs.Small.{build-refusal-small, verdict-refusal-small, compare-refusal-small}
 
 -- ---- the refusal and the value
 pub record Tells (refusal value told : ℕ) : Type 0 where

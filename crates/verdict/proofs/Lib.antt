@@ -5,3 +5,5 @@ pub mod Places
 pub mod Marking
 pub mod Blocking
 pub mod Judging
+pub mod Small
+pub mod Within

@@ -1,3 +1,4 @@
 pub mod Requests
 pub mod Marks
 pub mod Answer
+pub mod Within

@@ -1,0 +1,2 @@
+-- The definitions that the contracts of `shelftext` cite.
+pub mod Texts

@@ -1,0 +1,111 @@
+//! What the programs `shelf` and `cases` are run on, and what they must write.
+//! The files `stdin` and `stdout` beside each program are made here.
+
+use crate::{book, generate, hex, shelf};
+
+/// A run of a program.
+pub struct Run {
+    pub program: &'static str,
+    pub stdin: Vec<u8>,
+    pub stdout: String,
+}
+
+/// One run of each program.
+pub fn runs() -> Vec<Run> {
+    let policies = policies();
+    vec![
+        Run {
+            program: "shelf",
+            stdin: E.to_vec(),
+            stdout: shelf::shelf(E),
+        },
+        Run {
+            program: "cases",
+            stdin: policies.iter().flat_map(|policy| record(policy)).collect(),
+            stdout: policies.iter().map(|policy| case_line(policy)).collect(),
+        },
+    ]
+}
+
+/// The line for a policy: its book in hexadecimal, two digits for each byte, or
+/// the number that turns it down.
+pub fn case_line(policy: &[u8]) -> String {
+    match book::build(policy) {
+        Ok(book) => {
+            let digits: String = book
+                .to_bytes()
+                .iter()
+                .map(|byte| format!("{byte:02X}"))
+                .collect();
+            digits + "\n"
+        }
+        Err(refusal) => shelf::refusal_line(refusal),
+    }
+}
+
+/// A policy after its length in two bytes, the high byte first.
+fn record(policy: &[u8]) -> Vec<u8> {
+    let length = u16::try_from(policy.len()).expect("a length of two bytes");
+    [&length.to_be_bytes(), policy].concat()
+}
+
+/// The policies of the table of cases, the examples of the table of refusals,
+/// and generated ones.
+pub fn policies() -> Vec<Vec<u8>> {
+    let mut policies: Vec<Vec<u8>> = TABLE.iter().map(|policy| policy.to_vec()).collect();
+    policies.extend(EXAMPLES.iter().map(|text| bytes(text)));
+    policies.extend(first_small(generate::policy, 36));
+    policies.extend(first_small(generate::damaged_policy, 36));
+    policies
+}
+
+/// So many inputs of the generator whose books, if they have any, are small.
+fn first_small(generator: fn(u64) -> Vec<u8>, count: usize) -> Vec<Vec<u8>> {
+    let is_small = |policy: &Vec<u8>| case_line(policy).len() <= 2_000;
+    (0..).map(generator).filter(is_small).take(count).collect()
+}
+
+fn bytes(text: &str) -> Vec<u8> {
+    hex::parse(text).expect("hexadecimal text")
+}
+
+const E: &[u8] = include_bytes!("../../samples/e.policy");
+
+/// Cases A to S.
+const TABLE: [&[u8]; 10] = [
+    include_bytes!("../../samples/a.policy"),
+    include_bytes!("../../samples/b.policy"),
+    include_bytes!("../../samples/c.policy"),
+    include_bytes!("../../samples/d.policy"),
+    E,
+    include_bytes!("../../samples/f.policy"),
+    include_bytes!("../../samples/g.policy"),
+    include_bytes!("../../samples/h.policy"),
+    include_bytes!("../../samples/j.policy"),
+    include_bytes!("../../samples/s.policy"),
+];
+
+/// The examples of the numbers 2 to 11, each followed by its neighbour that
+/// passes where the table names one; case E with its added rule at level 1; and
+/// the greatest book, of 127 states and 136 codes.
+const EXAMPLES: [&str; 14] = [
+    "",
+    "50 4F 58 00 00 00 00 00 00",
+    "50 4F 4C 00 00 01 01 01 03 02",
+    "50 4F 4C 00 01 00 05 00 01 01 01 01 01 01 | 00 01 00 01 00 01 00 01 00 01 01 00",
+    "50 4F 4C 00 01 01 01 01 03 02 | 00 01 01 00 00 00 00 | 00 02 01 00 00 02 01 \
+     | 00 02 00 00 02 00 00 | 02 | 00",
+    "50 4F 4C 00 01 00 02 00 01 09 08 | 00 01 00 01 01 00",
+    "50 4F 4C 00 01 00 02 00 01 08 08 | 00 01 00 01 01 00",
+    "50 4F 4C 00 01 00 01 00 01 02 | 00 04 01 00",
+    "50 4F 4C 00 01 00 01 01 01 02 | 00 03 01 00 00 01 03",
+    "50 4F 4C 00 01 00 01 02 01 02 | 00 03 01 00 08 00 01 08 00 01",
+    "50 4F 4C 00 01 00 01 02 01 02 | 00 03 01 00 07 00 01 07 00 01",
+    "50 4F 4C 00 01 00 01 01 03 02 | 00 03 01 00 00 01 00 | 00 01 01 00 00 01 01 \
+     | 00 03 01 00 01 07 01",
+    "50 4F 4C 00 01 01 01 01 04 02 | 00 01 01 00 00 00 00 | 00 02 01 00 00 02 01 \
+     | 00 02 00 00 02 00 00 | 00 01 00 01 02 00 00 | 02",
+    "50 4F 4C 00 01 08 02 01 05 08 08 | 00 01 00 FF 01 00 00 00 01 \
+     | 00 FE 00 FF 01 00 00 01 00 | 00 FE 00 FF 01 00 00 01 01 \
+     | 00 01 00 FF 00 00 3E 3F 00 | 00 FE 00 FF 00 00 3F 00 00 | 00 00 00 00 00 00 00 00",
+];
