@@ -1,94 +1,149 @@
--- From the tables of the rules to the images: the sets chosen by rank are those of the rules that apply.
-use mathlib.Core.Path.{_≡_, sym, ap, _∙_}
-use mathlib.Core.Bool.{Bool, cond, false, _&&_}
+-- From the tables of the rules to the images: the sets chosen by level are those of the rules that apply.
+use mathlib.Core.Path.{_≡_, refl, sym, ap, _∙_}
+use mathlib.Core.Bool.{Bool, cond, true, false, _&&_}
 use mathlib.Core.List.{List}
-use Prim.Native.Nat.{ℕ, _+_, _-_, _*_, _<_, _≤_}
+use Prim.Native.Nat.{ℕ, zero, suc, _+_, _-_, _*_, _<_, _≤_}
 use native.Mathlib.Nat.{suc-mul}
 use native.Mathlib.Numerals.{add-one}
 use native.Mathlib.Omega.{arith}
 use lib.Arith.{digits-div, digits-mod}
+use lib.Bits.{bitAnd}
 use lib.Dec.{eqb}
 use lib.ListN.{length, getD, take, drop}
-use lib.Seq.{getD-drop}
 use borrow.Author.Tests.{lt-ltb, le-ltb}
 use borrow.Rule.Slice.PartMut.{putMid}
+use Rattle.automaton.specs.Below.{allBelow}
 use Rattle.automaton.proofs.Congruence.{fold-below-same}
 use Rattle.automaton.proofs.Loops.{row-within}
-use Rattle.definitions.specs.Policy.{events, rules, requests, width, rule, decision, level, change}
-use Rattle.definitions.specs.Valuation.{valuations}
-use Rattle.definitions.specs.Situation.{letsThrough, enabled, applies, emptySet, insert, withRule, requestImage, requestOf, decisionOf}
+use Rattle.definitions.specs.Bytes.{bit}
+use Rattle.definitions.specs.Policy.{events, fields, variables, rules, requests, width, rule, mask, decision, change, value}
+use Rattle.definitions.specs.Valuation.{valuations, variableIn, byRule}
+use Rattle.definitions.specs.Situation.{fits, applies, emptySet, insert, withRule, requestImage, requestOf, decisionOf}
+use Rattle.definitions.proofs.Requests.{value-below}
+use Rattle.policy.specs.Record.{partTestPasses}
 use Rattle.policy.specs.Sized.{Passed}
-use Rattle.images.specs.Tables.{Tabled, Filled}
-use Rattle.images.specs.Images.{letsAt, ruleDecision, ruleRank, ruleTarget, withGreatest, greatest, withChosen, chosenBy, chosenFor, Small, eventFrom, imageFrom, imageAt, ImagesFilled, withMost}
-use Rattle.images.proofs.Ranks.{by-rank, seen, top}
-use Rattle.images.proofs.Valuations.{carried-below}
+use Rattle.policy.proofs.Checked.{count-in-range}
+use Rattle.images.specs.Tables.{entryOf, Tabled, Filled}
+use Rattle.images.specs.Rules.{maskLetsBy, ruleLets, letting, lettingRequest, testPassesBy, ruleEnabled, enabling}
+use Rattle.images.specs.Choice.{Listed, levelIn, withMost, greatest, withChosen, leading, chosenFor}
+use Rattle.images.specs.Images.{ruleLevel, ruleDecision, ruleTarget, eventFrom, imageFrom, imageAt, ImagesFilled}
+use Rattle.images.proofs.RuleSets.{bit-and, bit-passing, passing-below, passing-same}
+use Rattle.images.proofs.Levels.{by-level, seen, top}
+use Rattle.images.proofs.Choosing.{leading-idle}
+use Rattle.images.proofs.Valuations.{variable-most, carried-below}
+use Rattle.images.proofs.Targets.{rule-target-same, event-from-same}
 use Rattle.images.proofs.Tables.{filled-as, filled-join, filled-part}
 
 -- rule i for request r in valuation v
-abbrev letsOf : List ℕ → ℕ → ℕ → Bool
-letsOf p r i = letsThrough p (rule p i) r
-
-abbrev ableIn : List ℕ → ℕ → ℕ → Bool
-ableIn p v i = enabled p (rule p i) v
-
-abbrev levelOf : List ℕ → ℕ → ℕ
-levelOf p i = level p (rule p i)
+abbrev fitsOf : List ℕ → ℕ → ℕ → ℕ → Bool
+fitsOf p r v i = fits p (rule p i) r v
 
 cond-same : (a b : Bool) (x y z : ℕ) → a ≡ b → x ≡ y → cond a x z ≡ cond b y z
 cond-same a b x y z e f = rw (e, f)
 
--- ---- the tables of one valuation
-pub record Tables (p : List ℕ) (v : ℕ) (lets : List Bool) (decisions ranks targets : List ℕ) : Type 0 where
-  pub letting : Tabled false (requests p * rules p) (letsAt p) lets
-  pub deciding : Tabled 0 (rules p) (ruleDecision p) decisions
-  pub ranking : Tabled 0 (rules p) (ruleRank p v) ranks
-  pub leading : Tabled 0 (rules p) (ruleTarget p v) targets
+all-below-same : (f g : ℕ → Bool) (n : ℕ) → ((k : ℕ) → k < n → f k ≡ g k) → allBelow n f ≡ allBelow n g
+all-below-same f g zero same = refl
+all-below-same f g (suc n) same = rw (all-below-same f g n (λ k l. same k (omega arith)), same n (omega arith))
 
-module _ (p : List ℕ) (v : ℕ) (lets : List Bool) (decisions ranks targets : List ℕ) (h : Tables p v lets decisions ranks targets) where
-  -- the part of `lets` for request r
-  lets-entry : (r k : ℕ) → r < requests p → k < rules p → getD (drop (r * rules p) lets) k false ≡ letsThrough p (rule p k) r
-  lets-entry r k l m =
-      let inside : r * rules p + k < requests p * rules p = let w = row-within r (requests p) (rules p) l in omega arith in
-      getD-drop (r * rules p) lets k false ∙ h .letting .entry (r * rules p + k) inside ∙ rw (digits-mod r {m = rules p} m, digits-div r {m = rules p} m)
+-- ---- sets of rules by tables of values
+module _ (p : List ℕ) (x y : ℕ → ℕ) where
+  pub letting-same : ((f : ℕ) → f < fields p → x f ≡ y f) → letting p x ≡ letting p y
+  letting-same same =
+      passing-same (ruleLets p x) (ruleLets p y) (rules p)
+      (λ k l. all-below-same (maskLetsBy (rule p k) x) (maskLetsBy (rule p k) y) (fields p) (λ f m. ap (bit (mask (rule p k) f)) (same f m)))
+
+  enabling-same : ((j : ℕ) → j < variables p → x j ≡ y j) → enabling p x ≡ enabling p y
+  enabling-same same =
+      passing-same (ruleEnabled p x) (ruleEnabled p y) (rules p)
+      (λ k l. all-below-same (testPassesBy p (rule p k) x) (testPassesBy p (rule p k) y) (variables p) (λ j m. ap (partTestPasses p (rule p k) j) (same j m)))
+
+-- the values of a request's fields number bits of a word
+pub value-small : (p : List ℕ) → Passed p → (r f : ℕ) → f < fields p → value p r f < 64
+value-small p h r f l =
+    let n = count-in-range p (h .counts) f l in
+    let m = value-below p (λ g k. count-in-range p (h .counts) g k .0) r f l in omega arith
+
+-- ---- the tables of one valuation, and the set of the rules that are enabled in it
+pub record Tables (p : List ℕ) (v : ℕ) (values lets : List ℕ) (able : ℕ) (levels decisions targets : List ℕ) : Type 0 where
+  pub valued : Tabled 0 (variables p) (variableIn p v) values
+  pub letting : Tabled 0 (requests p) (lettingRequest p) lets
+  pub enabled : able ≡ enabling p (entryOf values)
+  pub leveled : Tabled 0 (rules p) (ruleLevel p) levels
+  pub deciding : Tabled 0 (rules p) (ruleDecision p) decisions
+  pub leading : Tabled 0 (rules p) (ruleTarget p (entryOf values)) targets
+
+module _ (p : List ℕ) (v : ℕ) (values lets : List ℕ) (able : ℕ) (levels decisions targets : List ℕ) (h : Tables p v values lets able levels decisions targets) where
+  able-is : able ≡ enabling p (variableIn p v)
+  able-is = h .enabled ∙ enabling-same p (entryOf values) (variableIn p v) (h .valued .entry)
+
+  target-is : (k : ℕ) → k < rules p → getD targets k 0 ≡ byRule p k v
+  target-is k l = h .leading .entry k l ∙ rule-target-same p (entryOf values) (variableIn p v) (h .valued .entry) k
+
+  able-below : (k : ℕ) → bit able k ≡ true → k < rules p
+  able-below k e = passing-below (ruleEnabled p (variableIn p v)) (rules p) k (rw able-is at e)
+
+  -- every rule that is enabled has its entries
+  pub rules-listed : Passed p → Listed able levels decisions targets
+  rules-listed passed k e =
+      let l = able-below k e in (
+        omega (arith, h .leveled .room),
+        omega (arith, h .deciding .room),
+        omega (arith, h .leading .room),
+        rw (target-is k l)
+            (let few = passed .fewValuations in
+            let b = carried-below p (change p (rule p k)) (variableIn p v) (λ j m. variable-most p v j) in omega arith),
+      )
 
   module _ (r : ℕ) (l : r < requests p) where
-    greatest-is : greatest (drop (r * rules p) lets) ranks (rules p) ≡ top (rules p) (letsOf p r) (ableIn p v) (levelOf p)
-    greatest-is =
-        fold-below-same (withGreatest (drop (r * rules p) lets) ranks) (withMost (seen (rules p) (letsOf p r) (ableIn p v) (levelOf p))) 1 (rules p)
-        (λ k best m. rw (lets-entry r k l m, h .ranking .entry k m))
+    -- the rules that fit request r
+    fits-entry : (k : ℕ) → k < rules p → bit (bitAnd (getD lets r 0) able) k ≡ fits p (rule p k) r v
+    fits-entry k m =
+        bit-and (getD lets r 0) able k
+        ∙ rw (h .letting .entry r l, able-is, bit-passing (ruleLets p (value p r)) (rules p) k m, bit-passing (ruleEnabled p (variableIn p v)) (rules p) k m)
 
-    pub chosen-image : (d : ℕ) → chosenBy (drop (r * rules p) lets) decisions ranks targets (rules p) (greatest (drop (r * rules p) lets) ranks (rules p)) d ≡ requestImage p r d v
-    chosen-image d =
-        fold-below-same (withChosen (drop (r * rules p) lets) decisions ranks targets (greatest (drop (r * rules p) lets) ranks (rules p)) d) (withRule p r d v) emptySet (rules p)
-        (λ k set m. cond-same _ _ _ _ set (test k m) (ap (λ (u : ℕ). insert u set) (h .leading .entry k m)))
+    fits-beyond : (k : ℕ) → rules p ≤ k → bit (bitAnd (getD lets r 0) able) k ≡ false
+    fits-beyond k m = bit-and (getD lets r 0) able k ∙ go (bit (getD lets r 0) k) (bit able k) refl
+      where
+        go : (a b : Bool) → bit able k ≡ b → (a && b) ≡ false
+        go false b e = refl
+        go true false e = refl
+        go true true e = let n = able-below k e in absurd (omega arith)
+
+    greatest-is : greatest (bitAnd (getD lets r 0) able) levels (rules p) ≡ top (rules p) (fitsOf p r v) (ruleLevel p)
+    greatest-is =
+        fold-below-same (withMost (levelIn (bitAnd (getD lets r 0) able) levels)) (withMost (seen (rules p) (fitsOf p r v) (ruleLevel p))) 0 (rules p)
+        (λ k best m. rw (fits-entry k m, h .leveled .entry k m))
+
+    leading-image : (d : ℕ) → leading (bitAnd (getD lets r 0) able) levels decisions targets (length levels) d ≡ requestImage p r d v
+    leading-image d =
+        leading-idle (bitAnd (getD lets r 0) able) levels decisions targets (rules p) (length levels) (h .leveled .room) (λ i a b. fits-beyond i a) d
+        ∙ fold-below-same (withChosen (bitAnd (getD lets r 0) able) levels decisions targets (greatest (bitAnd (getD lets r 0) able) levels (rules p)) d) (withRule p r d v) emptySet (rules p)
+        (λ k set m. cond-same _ _ _ _ set (test k m) (ap (λ (u : ℕ). insert u set) (target-is k m)))
       where
         test : (k : ℕ) → k < rules p
-            → (eqb (getD decisions k 0) d && (getD (drop (r * rules p) lets) k false && eqb (getD ranks k 0) (greatest (drop (r * rules p) lets) ranks (rules p))))
+            → (eqb (getD decisions k 0) d && (bit (bitAnd (getD lets r 0) able) k && eqb (getD levels k 0) (greatest (bitAnd (getD lets r 0) able) levels (rules p))))
             ≡ (eqb (decision p (rule p k)) d && applies p (rule p k) r v)
         test k m =
-            rw (h .deciding .entry k m, lets-entry r k l m, h .ranking .entry k m, greatest-is)
-            (ap (λ (b : Bool). eqb (decision p (rule p k)) d && b)
-            (sym (by-rank (rules p) (letsOf p r) (ableIn p v) (levelOf p) k m)))
+            rw (h .deciding .entry k m, fits-entry k m, h .leveled .entry k m, greatest-is)
+            (ap (λ (b : Bool). eqb (decision p (rule p k)) d && b) (sym (by-level (rules p) (fitsOf p r v) (ruleLevel p) k m)))
 
   -- the set for a code of a decided request
-  pub code-image : (c : ℕ) → events p ≤ c → c < width p → chosenFor lets decisions ranks targets (rules p) (events p) c ≡ imageFrom p v c
+  code-image : (c : ℕ) → events p ≤ c → c < width p → chosenFor lets able levels decisions targets (events p) c ≡ imageFrom p v c
   code-image c l m =
       let e : requestOf (events p) c < requests p = omega arith in
-      chosen-image (requestOf (events p) c) e (decisionOf (events p) c) ∙ rw (le-ltb c (events p) l)
+      leading-image (requestOf (events p) c) e (decisionOf (events p) c) ∙ rw (le-ltb c (events p) l)
 
-  -- every rule leads to a valuation
-  pub targets-small : Passed p → (n : ℕ) → n ≡ rules p → Small n targets
-  targets-small passed n e k l =
-      rw (h .leading .entry k (omega arith)) (let few = passed .fewValuations in let b = carried-below p (change p (rule p k)) v in omega arith)
+  event-image : (e : ℕ) → 0 ≤ e → e < events p → eventFrom p (entryOf values) e ≡ imageFrom p v e
+  event-image e a b = event-from-same p (entryOf values) (variableIn p v) (h .valued .entry) e ∙ rw (lt-ltb e (events p) b)
 
   -- the row of valuation v: its events, and then its requests
-  pub row-filled : (n first q : ℕ) (before between after : List ℕ) → n ≡ rules p → first ≡ events p → q ≡ requests p → Filled 0 0 (events p) (eventFrom p v) before between
-      → Filled 0 first (first + 2 * q) (chosenFor lets decisions ranks targets n first) between after → Filled 0 0 (width p) (imageFrom p v) before after
-  row-filled n first q before between after en ef eq done then =
-      let then′ : Filled 0 (events p) (width p) (chosenFor lets decisions ranks targets (rules p) (events p)) between after = rw (en, ef, eq) at then in
+  pub row-filled : (first q : ℕ) (before between after : List ℕ) → first ≡ events p → q ≡ requests p → Filled 0 0 (events p) (eventFrom p (entryOf values)) before between
+      → Filled 0 first (first + 2 * q) (chosenFor lets able levels decisions targets first) between after → Filled 0 0 (width p) (imageFrom p v) before after
+  row-filled first q before between after ef eq done then =
+      let then′ : Filled 0 (events p) (width p) (chosenFor lets able levels decisions targets (events p)) between after = rw (ef, eq) at then in
       filled-join 0 0 (events p) (width p) (imageFrom p v) before between after (omega arith) (omega arith)
-      (filled-as 0 0 (events p) (eventFrom p v) (imageFrom p v) before between (λ e a b. rw (lt-ltb e (events p) b)) done)
-      (filled-as 0 (events p) (width p) (chosenFor lets decisions ranks targets (rules p) (events p)) (imageFrom p v) between after code-image then′)
+      (filled-as 0 0 (events p) (eventFrom p (entryOf values)) (imageFrom p v) before between event-image done)
+      (filled-as 0 (events p) (width p) (chosenFor lets able levels decisions targets (events p)) (imageFrom p v) between after code-image then′)
 
 -- ---- the rows of all valuations
 module _ (p : List ℕ) where

@@ -1,6 +1,7 @@
 pub mod Tables
-pub mod Ranks
+pub mod RuleSets
+pub mod Levels
+pub mod Choosing
 pub mod Valuations
-pub mod Decided
 pub mod Targets
 pub mod Imaged

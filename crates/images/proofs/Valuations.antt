@@ -1,9 +1,9 @@
 -- Valuations as numbers in mixed radix: taking off one variable after another, and putting changed ones together again.
-use mathlib.Core.Path.{_≡_, refl, sym, ap}
+use mathlib.Core.Path.{_≡_, refl}
 use mathlib.Core.Bool.{Bool, cond, true, false}
 use mathlib.Core.List.{List}
 use Prim.Native.Nat.{ℕ, zero, suc, _+_, _*_, _/_, _%_, _<_, _≤_}
-use native.Mathlib.Nat.{mod-lt, div-one, div-div-eq-div-mul, mul-le-mul-right, suc-mul, mul-comm}
+use native.Mathlib.Nat.{mod-lt, div-div-eq-div-mul, mul-le-mul-right, suc-mul, mul-comm}
 use native.Mathlib.Numerals.{add-one}
 use native.Mathlib.Omega.{arith}
 use lib.Dec.{ltb}
@@ -11,10 +11,12 @@ use borrow.Author.Tests.{ltb-true}
 use Rattle.automaton.specs.Below.{foldBelow}
 use Rattle.automaton.proofs.Congruence.{fold-below-same}
 use Rattle.definitions.specs.Policy.{variables}
-use Rattle.definitions.specs.Valuation.{bound, valuesOf, worth, valuations, variableIn, changed, withChanged, carriedOut}
+use Rattle.definitions.specs.Valuation.{bound, valuesOf, worth, valuations, variableIn, changed}
 use Rattle.definitions.specs.Situation.{isBelow}
 use Rattle.policy.specs.Sized.{Passed}
 use Rattle.definitions.proofs.Products.{product-grows}
+use Rattle.images.specs.Tables.{Tabled}
+use Rattle.images.specs.Images.{Valued, withChangedBy, carriedBy}
 
 -- ---- a test and a change of one variable
 pub limited : (x most : ℕ) → (most ≡ 0 → ⊥) → isBelow x most ≡ ltb x most
@@ -40,9 +42,6 @@ changed-most (suc (suc n)) most x h = omega arith
 
 module _ (p : List ℕ) where
   -- ---- the variables before j have been taken off
-  pub rest-first : (v : ℕ) → v ≡ v / worth p 0
-  rest-first v = sym (div-one v)
-
   pub rest-more : (v j rest values : ℕ) → rest ≡ v / worth p j → values ≡ valuesOf p j → rest / values ≡ v / worth p (j + 1)
   rest-more v j rest values er ev = rw (er, ev, add-one) (div-div-eq-div-mul v (worth p j) (valuesOf p j))
 
@@ -61,47 +60,42 @@ module _ (p : List ℕ) where
       let most : worth p (suc j) ≤ worth p (variables p) = worth-grows (suc j) (variables p) l in
       omega (arith, h .fewValuations)
 
+  -- a table of the variables of v
+  pub valued : (v : ℕ) (values : List ℕ) → Tabled 0 (variables p) (variableIn p v) values → Valued p values
+  valued v values t = record { room = t .room; most = λ j l. rw (t .entry j l) (variable-most v j) }
+
   -- ---- the changed variables before j have been put together
-  module _ (changes : ℕ → ℕ) (v : ℕ) where
-    -- they are worth less than one of variable j
-    pub carried-less : (j : ℕ) → foldBelow j 0 (withChanged p changes v) < worth p j
-    carried-less zero = omega arith
-    carried-less (suc j) =
-        let w = worth p j in
-        let x = changed (changes j) (bound p j) (variableIn p v j) in
-        let h = carried-less j in
-        let l : suc x * w ≤ valuesOf p j * w = mul-le-mul-right w (let m = changed-most (changes j) (bound p j) (variableIn p v j) (variable-most v j) in omega arith) in
-        let e : suc x * w ≡ x * w + w = suc-mul x w in
-        let k : valuesOf p j * w ≡ w * valuesOf p j = mul-comm (valuesOf p j) w in omega arith
+  module _ (changes x : ℕ → ℕ) where
+    -- what one of variable j is worth, and what has been put together
+    abbrev pub Carrying : ℕ → ℕ → ℕ → Type 0
+    Carrying j w sum = (w ≡ worth p j) × (sum ≡ foldBelow j 0 (withChangedBy p changes x))
 
-    pub carried-below : carriedOut p changes v < valuations p
-    carried-below = carried-less (variables p)
+    pub carrying-more : (j w sum most y : ℕ) → Carrying j w sum → most ≡ bound p j → y ≡ changed (changes j) most (x j)
+        → Carrying (j + 1) (w * (most + 1)) (sum + y * w)
+    carrying-more j w sum most y h em ey = (rw (h .0, em, add-one (bound p j), add-one j), rw (h .1, ey, h .0, em, add-one))
 
-    -- what is left of v, what one of variable j is worth, and what has been put together
-    abbrev pub Carrying : ℕ → ℕ → ℕ → ℕ → Type 0
-    Carrying j rest w sum = (rest ≡ v / worth p j) × (w ≡ worth p j) × (sum ≡ foldBelow j 0 (withChanged p changes v))
+    module _ (fits : (j : ℕ) → j < variables p → x j ≤ bound p j) where
+      -- they are worth less than one of variable j
+      carried-less : (j : ℕ) → j ≤ variables p → foldBelow j 0 (withChangedBy p changes x) < worth p j
+      carried-less zero m = omega arith
+      carried-less (suc j) m =
+          let w = worth p j in
+          let y = changed (changes j) (bound p j) (x j) in
+          let h = carried-less j (omega arith) in
+          let l : suc y * w ≤ valuesOf p j * w = mul-le-mul-right w (let k = changed-most (changes j) (bound p j) (x j) (fits j m) in omega arith) in
+          let e : suc y * w ≡ y * w + w = suc-mul y w in
+          let k : valuesOf p j * w ≡ w * valuesOf p j = mul-comm (valuesOf p j) w in omega arith
 
-    pub carrying-none : Carrying 0 v 1 0
-    carrying-none = (rest-first v, refl, refl)
+      pub carried-below : carriedBy p changes x < valuations p
+      carried-below = carried-less (variables p) (omega arith)
 
-    pub carrying-more : (j rest w sum most x : ℕ) → Carrying j rest w sum → most ≡ bound p j → x ≡ changed (changes j) most (rest % (most + 1))
-        → Carrying (j + 1) (rest / (most + 1)) (w * (most + 1)) (sum + x * w)
-    carrying-more j rest w sum most x h em ex =
-        let ev : most + 1 ≡ valuesOf p j = omega arith in
-        let er : rest % (most + 1) ≡ variableIn p v j = variable-is v j rest (most + 1) (h .0) ev in (
-          rest-more v j rest (most + 1) (h .0) ev,
-          rw (h .1, ev, add-one),
-          rw (h .2, ex, er, h .1, em, add-one),
-        )
+      pub carrying-fits : Passed p → (j w sum : ℕ) → j ≤ variables p → Carrying j w sum → (sum < 64) × (w ≤ 64)
+      carrying-fits passed j w sum l h =
+          let few = passed .fewValuations in
+          let less : foldBelow j 0 (withChangedBy p changes x) < worth p j = carried-less j l in
+          let most : worth p j ≤ worth p (variables p) = worth-grows j (variables p) l in
+          (omega arith, omega arith)
 
-    pub carrying-fits : Passed p → (j rest w sum : ℕ) → j ≤ variables p → Carrying j rest w sum → (sum < 64) × (w ≤ 64)
-    carrying-fits passed j rest w sum l h =
-        let few = passed .fewValuations in
-        let less : foldBelow j 0 (withChanged p changes v) < worth p j = carried-less j in
-        let most : worth p j ≤ worth p (variables p) = worth-grows j (variables p) l in
-        (omega arith, omega arith)
-
-  pub carried-same : (f g : ℕ → ℕ) (v : ℕ) → ((j : ℕ) → j < variables p → f j ≡ g j) → carriedOut p f v ≡ carriedOut p g v
-  carried-same f g v same =
-      fold-below-same (withChanged p f v) (withChanged p g v) 0 (variables p)
-      (λ j u l. ap (λ (c : ℕ). u + changed c (bound p j) (variableIn p v j) * worth p j) (same j l))
+  pub carried-same : (f g x y : ℕ → ℕ) → ((j : ℕ) → j < variables p → f j ≡ g j) → ((j : ℕ) → j < variables p → x j ≡ y j) → carriedBy p f x ≡ carriedBy p g y
+  carried-same f g x y fs xs =
+      fold-below-same (withChangedBy p f x) (withChangedBy p g y) 0 (variables p) (λ j u l. rw (fs j l, xs j l))

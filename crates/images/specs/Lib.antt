@@ -1,2 +1,4 @@
 pub mod Tables
+pub mod Rules
+pub mod Choice
 pub mod Images

@@ -1,108 +1,103 @@
-// Which rules apply to a request, by tables of one entry for each rule, and where they lead.
+// Which of the rules that fit a request apply, by tables of one entry for each rule, and where they lead.
 ghost use mathlib.Core.Path.{_≡_};
-ghost use Prim.Native.Nat.{_+_, _*_, _<_, _≤_};
-ghost use lib.ListN.{length, getD};
+ghost use Prim.Native.Nat.{_+_, _*_, _<_, _≤_, max};
+ghost use lib.ListN.{length};
 ghost use Rattle.images.specs.Tables.{Filled};
-ghost use Rattle.images.specs.Images.{Small, withGreatest, greatest, withChosen, chosenBy, chosenFor};
+ghost use Rattle.images.specs.Choice.{joined, kept, withTarget, Listed, Chosen, chosenFor};
+use super::sets;
 use situation::Situation;
 
-fn with_greatest(lets: &[bool], ranks: &[usize], k: usize, best: usize) -> usize
-    requires { ⌜ (k < length (now lets)) × (k < length (now ranks)) ⌝ }
-    ensures { λ r. ⌜ r ≡ withGreatest (now (lets .entry)) (now (ranks .entry)) k best ⌝ }
-{
-    if !lets[k] {
-        return best;
-    }
-    let rank = ranks[k];
-    if best < rank { rank } else { best }
+// The greatest level of some rules that fit, 0 if there are none, and where those of that level lead, accepting and rejecting.
+pub struct Choice {
+    pub best: usize,
+    pub accepted: Situation,
+    pub rejected: Situation,
 }
 
-// The greatest rank of the n rules that let the request through, at least 1: that of the rules that apply.
-fn greatest(lets: &[bool], ranks: &[usize], n: usize) -> usize
-    requires { ⌜ (n ≤ length (now lets)) × (n ≤ length (now ranks)) ⌝ }
-    ensures { λ r. ⌜ r ≡ greatest (now (lets .entry)) (now (ranks .entry)) n ⌝ }
+// The set, and the target if the decision is d.
+fn joined(set: Situation, decision: usize, d: usize, target: usize) -> Situation
+    requires { ⌜ target < 64 ⌝ }
+    ensures { λ r. ⌜ r .set ≡ joined decision d target (set .set) ⌝ }
 {
-    let mut best = 1;
+    if decision == d { set.with(target) } else { set }
+}
+
+// What a rule of this level leaves of the choice: nothing where its level is greater.
+fn kept(choice: Choice, level: usize) -> Choice
+    ensures { λ r. ⌜ (r .best ≡ max (choice .best) level)
+        × (r .accepted .set ≡ kept (choice .best) level (choice .accepted .set))
+        × (r .rejected .set ≡ kept (choice .best) level (choice .rejected .set)) ⌝ }
+{
+    if choice.best < level {
+        return Choice {
+            best: level,
+            accepted: Situation::EMPTY,
+            rejected: Situation::EMPTY,
+        };
+    }
+    choice
+}
+
+// The choice, and one rule more: of a greater level it takes the place of those before, of the same level it joins them.
+fn with_rule(choice: Choice, level: usize, decision: usize, target: usize) -> Choice
+    requires { ⌜ target < 64 ⌝ }
+    ensures { λ r. ⌜ (r .best ≡ max (choice .best) level)
+        × (r .accepted .set ≡ withTarget (choice .best) level decision 1 target (choice .accepted .set))
+        × (r .rejected .set ≡ withTarget (choice .best) level decision 0 target (choice .rejected .set)) ⌝ }
+{
+    if level < choice.best {
+        return choice;
+    }
+    let before = kept(choice, level);
+    Choice {
+        best: level,
+        accepted: joined(before.accepted, decision, 1, target),
+        rejected: joined(before.rejected, decision, 0, target),
+    }
+}
+
+// The choice among the rules that fit.
+fn choose(fits: u64, levels: &[usize], decisions: &[usize], targets: &[usize]) -> Choice
+    requires { ⌜ Listed fits (now levels) (now decisions) (now targets) ⌝ }
+    ensures { λ r. ⌜ Chosen fits (now (levels .entry)) (now (decisions .entry)) (now (targets .entry)) (length (now (levels .entry))) r ⌝ }
+{
+    let mut choice = Choice {
+        best: 0,
+        accepted: Situation::EMPTY,
+        rejected: Situation::EMPTY,
+    };
+    let mut left = fits;
     let mut k = 0;
-    while k < n {
-        best = with_greatest(lets, ranks, k, best);
+    while left != 0 {
+        let zeros = sets::lowest(left);
+        k = k + zeros;
+        choice = with_rule(choice, levels[k], decisions[k], targets[k]);
+        left = (left >> zeros) / 2;
         k += 1;
     }
-    best
-}
-
-// The set, and where rule k leads if it applies with decision d.
-fn with_chosen(
-    lets: &[bool],
-    decisions: &[usize],
-    ranks: &[usize],
-    targets: &[usize],
-    best: usize,
-    d: usize,
-    k: usize,
-    set: Situation,
-) -> Situation
-    requires { ⌜ (k < length (now lets)) × (k < length (now decisions)) × (k < length (now ranks)) × (k < length (now targets)) × (getD (now targets) k 0 < 64) ⌝ }
-    ensures { λ r. ⌜ r .set ≡ withChosen (now (lets .entry)) (now (decisions .entry)) (now (ranks .entry)) (now (targets .entry)) best d k (set .set) ⌝ }
-{
-    if decisions[k] != d {
-        return set;
-    }
-    if !lets[k] {
-        return set;
-    }
-    if ranks[k] != best {
-        return set;
-    }
-    set.with(targets[k])
-}
-
-// Where the rules of rank `best` and decision d lead.
-fn chosen(
-    lets: &[bool],
-    decisions: &[usize],
-    ranks: &[usize],
-    targets: &[usize],
-    n: usize,
-    best: usize,
-    d: usize,
-) -> Situation
-    requires { ⌜ (n ≤ length (now lets)) × (n ≤ length (now decisions)) × (n ≤ length (now ranks)) × (n ≤ length (now targets)) × Small n (now targets) ⌝ }
-    ensures { λ r. ⌜ r .set ≡ chosenBy (now (lets .entry)) (now (decisions .entry)) (now (ranks .entry)) (now (targets .entry)) n best d ⌝ }
-{
-    let mut set = Situation::EMPTY;
-    let mut k = 0;
-    while k < n {
-        set = with_chosen(lets, decisions, ranks, targets, best, d, k, set);
-        k += 1;
-    }
-    set
+    choice
 }
 
 // Entries first + 2r and first + 2r + 1 are where request r leads, accepted and rejected. The other entries stay.
 pub fn fill_requests(
-    lets: &[bool],
+    lets: &[u64],
+    enabled: u64,
+    levels: &[usize],
     decisions: &[usize],
-    ranks: &[usize],
     targets: &[usize],
-    n: usize,
     first: usize,
     requests: usize,
     row: &mut [u64],
 )
-    requires { ⌜ (requests * n ≤ length (now lets)) × (n ≤ length (now decisions)) × (n ≤ length (now ranks)) × (n ≤ length (now targets)) × Small n (now targets) × (first + 2 * requests ≤ length (now row)) ⌝ }
-    ensures { λ _. ⌜ Filled 0 first (first + 2 * requests) (chosenFor (now (lets .entry)) (now (decisions .entry)) (now (ranks .entry)) (now (targets .entry)) n first) (now (row .entry)) (now (row .exit)) ⌝ }
+    requires { ⌜ (requests ≤ length (now lets)) × Listed enabled (now levels) (now decisions) (now targets) × (first + 2 * requests ≤ length (now row)) ⌝ }
+    ensures { λ _. ⌜ Filled 0 first (first + 2 * requests) (chosenFor (now (lets .entry)) enabled (now (levels .entry)) (now (decisions .entry)) (now (targets .entry)) first) (now (row .entry)) (now (row .exit)) ⌝ }
 {
     let mut r = 0;
     while r < requests {
-        let at = r * n;
-        let here = &lets[at..];
-        let best = greatest(here, ranks, n);
-        let accepted = chosen(here, decisions, ranks, targets, n, best, 1);
-        let rejected = chosen(here, decisions, ranks, targets, n, best, 0);
+        let choice = choose(lets[r] & enabled, levels, decisions, targets);
         let code = first + 2 * r;
-        row[code] = accepted.set;
-        row[code + 1] = rejected.set;
+        row[code] = choice.accepted.set;
+        row[code + 1] = choice.rejected.set;
         r += 1;
     }
 }

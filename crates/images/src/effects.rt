@@ -3,12 +3,13 @@ ghost use mathlib.Core.Path.{_≡_};
 ghost use Prim.Native.Nat.{_<_, _≤_};
 ghost use lib.ListN.{length};
 ghost use Rattle.definitions.specs.Policy.{variables};
-ghost use Rattle.definitions.specs.Valuation.{bound, changed, carriedOut};
-ghost use Rattle.definitions.specs.Situation.{enabled};
+ghost use Rattle.definitions.specs.Valuation.{bound, variableIn, changed};
 ghost use Rattle.policy.specs.Sized.{Passed, TableOf, RuleOf};
-ghost use Rattle.images.specs.Tables.{Filled, Tabled};
 ghost use Rattle.policy.specs.Record.{partTestPasses};
-ghost use Rattle.images.specs.Images.{Spread, spread, rank};
+ghost use Rattle.images.specs.Tables.{Filled, Tabled, entryOf};
+ghost use Rattle.images.specs.Rules.{enabledBy, enabling};
+ghost use Rattle.images.specs.Images.{Spread, spread, Valued, carriedBy};
+use super::sets;
 use automaton::wide;
 use policy::header;
 use policy::record;
@@ -42,34 +43,53 @@ fn test_passes(policy: &[u8], rule: &[u8], j: usize, x: usize) -> bool
     x < lt
 }
 
-fn enabled(policy: &[u8], rule: &[u8], bounds: &[usize], v: usize) -> bool
-    requires { ⌜ Passed (now policy) × RuleOf (now policy) (now rule) × Tabled 0 (variables (now policy)) (bound (now policy)) (now bounds) ⌝ }
-    ensures { λ r. ⌜ r ≡ enabled (now (policy .entry)) (now (rule .entry)) v ⌝ }
+// Entry j is the value of variable j in v. What follows the entry of the last variable stays.
+pub fn fill_variables(policy: &[u8], bounds: &[usize], v: usize, values: &mut [usize])
+    requires { ⌜ Passed (now policy) × Tabled 0 (variables (now policy)) (bound (now policy)) (now bounds) × (variables (now policy) ≤ length (now values)) ⌝ }
+    ensures { λ _. ⌜ Filled 0 0 (variables (now (policy .entry))) (variableIn (now (policy .entry)) v) (now (values .entry)) (now (values .exit)) ⌝ }
 {
     let n = header::variables(policy);
     let mut rest = v;
     let mut j = 0;
     while j < n {
-        let values = bounds[j] + 1;
-        if !test_passes(policy, rule, j, rest % values) {
+        let count = bounds[j] + 1;
+        values[j] = rest % count;
+        rest = rest / count;
+        j += 1;
+    }
+}
+
+// Whether the tests of a rule are true of these values of the variables.
+fn enabled(policy: &[u8], rule: &[u8], values: &[usize]) -> bool
+    requires { ⌜ RuleOf (now policy) (now rule) × (variables (now policy) ≤ length (now values)) ⌝ }
+    ensures { λ r. ⌜ r ≡ enabledBy (now (policy .entry)) (now (rule .entry)) (entryOf (now (values .entry))) ⌝ }
+{
+    let n = header::variables(policy);
+    let mut j = 0;
+    while j < n {
+        if !test_passes(policy, rule, j, values[j]) {
             return false;
         }
-        rest = rest / values;
         j += 1;
     }
     true
 }
 
-// One more than the level of a rule that is enabled in v; 0 of any other.
-pub fn rank(policy: &[u8], rule: &[u8], bounds: &[usize], v: usize) -> usize
-    requires { ⌜ Passed (now policy) × RuleOf (now policy) (now rule) × Tabled 0 (variables (now policy)) (bound (now policy)) (now bounds) ⌝ }
-    ensures { λ r. ⌜ r ≡ rank (now (policy .entry)) (now (rule .entry)) v ⌝ }
+// The rules whose tests are true of these values of the variables.
+pub fn rules_enabled(policy: &[u8], table: &[u8], values: &[usize]) -> u64
+    requires { ⌜ TableOf (now policy) (now table) × (variables (now policy) ≤ length (now values)) ⌝ }
+    ensures { λ r. ⌜ r ≡ enabling (now (policy .entry)) (entryOf (now (values .entry))) ⌝ }
 {
-    if enabled(policy, rule, bounds, v) {
-        record::level(policy, rule) + 1
-    } else {
-        0
+    let size = header::rule_size(policy);
+    let n = header::rules(policy);
+    let mut set = 0;
+    let mut k = 0;
+    while k < n {
+        let at = k * size;
+        set = sets::with_passing(set, k, enabled(policy, &table[at..], values));
+        k += 1;
     }
+    set
 }
 
 fn changed(change: usize, most: usize, x: usize) -> usize
@@ -85,30 +105,27 @@ fn changed(change: usize, most: usize, x: usize) -> usize
     if x < most { x + 1 } else { x }
 }
 
-// The valuation that v leads to if the change of variable j is the byte at first + step × j.
+// The valuation that these values of the variables lead to if the change of variable j is the byte at first + step × j.
 pub fn carried_out(
     policy: &[u8],
     part: &[u8],
     first: usize,
     step: usize,
     bounds: &[usize],
-    v: usize,
+    values: &[usize],
 ) -> usize
-    requires { ⌜ Passed (now policy) × Tabled 0 (variables (now policy)) (bound (now policy)) (now bounds) × Spread (now part) first step (variables (now policy)) ⌝ }
-    ensures { λ r. ⌜ (r ≡ carriedOut (now (policy .entry)) (spread (now (part .entry)) first step) v) × (r < 64) ⌝ }
+    requires { ⌜ Passed (now policy) × Tabled 0 (variables (now policy)) (bound (now policy)) (now bounds) × Valued (now policy) (now values) × Spread (now part) first step (variables (now policy)) ⌝ }
+    ensures { λ r. ⌜ (r ≡ carriedBy (now (policy .entry)) (spread (now (part .entry)) first step) (entryOf (now (values .entry)))) × (r < 64) ⌝ }
 {
     let n = header::variables(policy);
-    let mut rest = v;
     let mut worth = 1;
     let mut sum = 0;
     let mut j = 0;
     while j < n {
         let most = bounds[j];
-        let values = most + 1;
         let change = wide(part[first + step * j]);
-        sum = sum + changed(change, most, rest % values) * worth;
-        rest = rest / values;
-        worth = worth * values;
+        sum = sum + changed(change, most, values[j]) * worth;
+        worth = worth * (most + 1);
         j += 1;
     }
     sum

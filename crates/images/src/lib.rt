@@ -2,6 +2,7 @@
 mod deciding;
 mod effects;
 mod matching;
+mod sets;
 
 ghost use mathlib.Core.Path.{_≡_};
 ghost use Prim.Native.Nat.{_+_, _*_, _<_, _≤_};
@@ -11,47 +12,41 @@ ghost use Rattle.definitions.specs.Valuation.{bound, valuations};
 ghost use Rattle.definitions.specs.Refusal.{fileRefusal};
 ghost use Rattle.policy.specs.Sized.{Passed, TableOf, ChangesOf};
 ghost use Rattle.policy.specs.Shape.{shapeOf};
-ghost use Rattle.images.specs.Tables.{Filled, Tabled};
-ghost use Rattle.images.specs.Images.{ruleDecision, ruleRank, ruleTarget, eventFrom, imageFrom, Prepared, imageAt, ImagesFilled};
+ghost use Rattle.images.specs.Tables.{Filled, Tabled, entryOf};
+ghost use Rattle.images.specs.Images.{ruleLevel, ruleDecision, Valued, ruleTarget, eventFrom, imageFrom, Prepared, imageAt, ImagesFilled};
 use policy::header;
 use policy::record;
 use policy::shape::Shape;
 use situation::Situation;
 
-// Entry k is the decision of rule k. What follows the entry of the last rule stays.
-fn fill_decisions(policy: &[u8], table: &[u8], decisions: &mut [usize])
-    requires { ⌜ TableOf (now policy) (now table) × (rules (now policy) ≤ length (now decisions)) ⌝ }
-    ensures { λ _. ⌜ Filled 0 0 (rules (now (policy .entry))) (ruleDecision (now (policy .entry))) (now (decisions .entry)) (now (decisions .exit)) ⌝ }
+// Entry k is the level of rule k, and its decision. What follows the entries of the last rule stays.
+fn fill_levels(policy: &[u8], table: &[u8], levels: &mut [usize], decisions: &mut [usize])
+    requires { ⌜ TableOf (now policy) (now table) × (rules (now policy) ≤ length (now levels)) × (rules (now policy) ≤ length (now decisions)) ⌝ }
+    ensures { λ _. ⌜ Filled 0 0 (rules (now (policy .entry))) (ruleLevel (now (policy .entry))) (now (levels .entry)) (now (levels .exit))
+        × Filled 0 0 (rules (now (policy .entry))) (ruleDecision (now (policy .entry))) (now (decisions .entry)) (now (decisions .exit)) ⌝ }
 {
     let size = header::rule_size(policy);
     let n = header::rules(policy);
     let mut k = 0;
     while k < n {
         let at = k * size;
-        decisions[k] = record::decision(policy, &table[at..]);
+        let rule = &table[at..];
+        levels[k] = record::level(policy, rule);
+        decisions[k] = record::decision(policy, rule);
         k += 1;
     }
 }
 
-// Entry k is the rank of rule k in valuation v. What follows the entry of the last rule stays.
-fn fill_ranks(policy: &[u8], table: &[u8], bounds: &[usize], v: usize, ranks: &mut [usize])
-    requires { ⌜ Passed (now policy) × TableOf (now policy) (now table) × Tabled 0 (variables (now policy)) (bound (now policy)) (now bounds) × (rules (now policy) ≤ length (now ranks)) ⌝ }
-    ensures { λ _. ⌜ Filled 0 0 (rules (now (policy .entry))) (ruleRank (now (policy .entry)) v) (now (ranks .entry)) (now (ranks .exit)) ⌝ }
-{
-    let size = header::rule_size(policy);
-    let n = header::rules(policy);
-    let mut k = 0;
-    while k < n {
-        let at = k * size;
-        ranks[k] = effects::rank(policy, &table[at..], bounds, v);
-        k += 1;
-    }
-}
-
-// Entry k is the valuation that carrying out rule k leads to from v. What follows the entry of the last rule stays.
-fn fill_targets(policy: &[u8], table: &[u8], bounds: &[usize], v: usize, targets: &mut [usize])
-    requires { ⌜ Passed (now policy) × TableOf (now policy) (now table) × Tabled 0 (variables (now policy)) (bound (now policy)) (now bounds) × (rules (now policy) ≤ length (now targets)) ⌝ }
-    ensures { λ _. ⌜ Filled 0 0 (rules (now (policy .entry))) (ruleTarget (now (policy .entry)) v) (now (targets .entry)) (now (targets .exit)) ⌝ }
+// Entry k is the valuation that carrying out rule k leads to. What follows the entry of the last rule stays.
+fn fill_targets(
+    policy: &[u8],
+    table: &[u8],
+    bounds: &[usize],
+    values: &[usize],
+    targets: &mut [usize],
+)
+    requires { ⌜ Passed (now policy) × TableOf (now policy) (now table) × Tabled 0 (variables (now policy)) (bound (now policy)) (now bounds) × Valued (now policy) (now values) × (rules (now policy) ≤ length (now targets)) ⌝ }
+    ensures { λ _. ⌜ Filled 0 0 (rules (now (policy .entry))) (ruleTarget (now (policy .entry)) (entryOf (now (values .entry)))) (now (targets .entry)) (now (targets .exit)) ⌝ }
 {
     let size = header::rule_size(policy);
     let n = header::rules(policy);
@@ -59,22 +54,22 @@ fn fill_targets(policy: &[u8], table: &[u8], bounds: &[usize], v: usize, targets
     let mut k = 0;
     while k < n {
         let at = k * size;
-        targets[k] = effects::carried_out(policy, &table[at..], first, 3, bounds, v);
+        targets[k] = effects::carried_out(policy, &table[at..], first, 3, bounds, values);
         k += 1;
     }
 }
 
-// Entry e is the set of the one valuation that event e leads to from v. What follows the entry of the last event stays.
-fn fill_events(policy: &[u8], changes: &[u8], bounds: &[usize], v: usize, row: &mut [u64])
-    requires { ⌜ Passed (now policy) × ChangesOf (now policy) (now changes) × Tabled 0 (variables (now policy)) (bound (now policy)) (now bounds) × (events (now policy) ≤ length (now row)) ⌝ }
-    ensures { λ _. ⌜ Filled 0 0 (events (now (policy .entry))) (eventFrom (now (policy .entry)) v) (now (row .entry)) (now (row .exit)) ⌝ }
+// Entry e is the set of the one valuation that event e leads to. What follows the entry of the last event stays.
+fn fill_events(policy: &[u8], changes: &[u8], bounds: &[usize], values: &[usize], row: &mut [u64])
+    requires { ⌜ Passed (now policy) × ChangesOf (now policy) (now changes) × Tabled 0 (variables (now policy)) (bound (now policy)) (now bounds) × Valued (now policy) (now values) × (events (now policy) ≤ length (now row)) ⌝ }
+    ensures { λ _. ⌜ Filled 0 0 (events (now (policy .entry))) (eventFrom (now (policy .entry)) (entryOf (now (values .entry)))) (now (row .entry)) (now (row .exit)) ⌝ }
 {
     let n = header::events(policy);
     let step = header::variables(policy);
     let mut e = 0;
     while e < n {
         let first = e * step;
-        let target = effects::carried_out(policy, changes, first, 1, bounds, v);
+        let target = effects::carried_out(policy, changes, first, 1, bounds, values);
         let reached = Situation::EMPTY.with(target);
         row[e] = reached.set;
         e += 1;
@@ -87,26 +82,27 @@ fn fill_row(
     table: &[u8],
     shape: Shape,
     bounds: &[usize],
-    lets: &[bool],
+    lets: &[u64],
+    levels: &[usize],
     decisions: &[usize],
     v: usize,
     row: &mut [u64],
 )
-    requires { ⌜ Prepared (now policy) (now table) shape (now bounds) (now lets) (now decisions) × (width (now policy) ≤ length (now row)) ⌝ }
+    requires { ⌜ Prepared (now policy) (now table) shape (now bounds) (now lets) (now levels) (now decisions) × (width (now policy) ≤ length (now row)) ⌝ }
     ensures { λ _. ⌜ Filled 0 0 (width (now (policy .entry))) (imageFrom (now (policy .entry)) v) (now (row .entry)) (now (row .exit)) ⌝ }
 {
-    let mut ranks = [0usize; 32];
+    let mut values = [0usize; 4];
     let mut targets = [0usize; 32];
-    fill_ranks(policy, table, bounds, v, &mut ranks);
-    fill_targets(policy, table, bounds, v, &mut targets);
+    effects::fill_variables(policy, bounds, v, &mut values);
+    fill_targets(policy, table, bounds, &values, &mut targets);
     let after_rules = shape.rules * header::rule_size(policy);
-    fill_events(policy, &table[after_rules..], bounds, v, row);
+    fill_events(policy, &table[after_rules..], bounds, &values, row);
     deciding::fill_requests(
         lets,
+        effects::rules_enabled(policy, table, &values),
+        levels,
         decisions,
-        &ranks,
         &targets,
-        shape.rules,
         shape.events,
         shape.requests,
         row,
@@ -119,11 +115,12 @@ fn fill_rows(
     table: &[u8],
     shape: Shape,
     bounds: &[usize],
-    lets: &[bool],
+    lets: &[u64],
+    levels: &[usize],
     decisions: &[usize],
     images: &mut [u64],
 )
-    requires { ⌜ Prepared (now policy) (now table) shape (now bounds) (now lets) (now decisions) × (valuations (now policy) * width (now policy) ≤ length (now images)) ⌝ }
+    requires { ⌜ Prepared (now policy) (now table) shape (now bounds) (now lets) (now levels) (now decisions) × (valuations (now policy) * width (now policy) ≤ length (now images)) ⌝ }
     ensures { λ _. ⌜ Filled 0 0 (valuations (now (policy .entry)) * width (now (policy .entry))) (imageAt (now (policy .entry))) (now (images .entry)) (now (images .exit)) ⌝ }
 {
     let w = shape.width;
@@ -137,6 +134,7 @@ fn fill_rows(
             shape,
             bounds,
             lets,
+            levels,
             decisions,
             v,
             &mut images[at..],
@@ -151,12 +149,22 @@ pub fn fill_images(policy: &[u8], shape: Shape, images: &mut [u64])
     ensures { λ _. ⌜ ImagesFilled (now (policy .entry)) (now (images .entry)) (now (images .exit)) ⌝ }
 {
     let mut bounds = [0usize; 4];
-    let mut lets = [false; 2048];
+    let mut lets = [0u64; 64];
+    let mut levels = [0usize; 32];
     let mut decisions = [0usize; 32];
     let after_counts = 9 + shape.fields;
     let table = &policy[after_counts..];
     effects::fill_bounds(policy, table, &mut bounds);
     matching::fill_lets(policy, table, &mut lets);
-    fill_decisions(policy, table, &mut decisions);
-    fill_rows(policy, table, shape, &bounds, &lets, &decisions, images);
+    fill_levels(policy, table, &mut levels, &mut decisions);
+    fill_rows(
+        policy,
+        table,
+        shape,
+        &bounds,
+        &lets,
+        &levels,
+        &decisions,
+        images,
+    );
 }

@@ -1,5 +1,8 @@
+pub mod StateWords
 pub mod Rounds
 pub mod Settling
+pub mod Staying
+pub mod Refinement
 pub mod Numbering
 pub mod Classing
 pub mod Spreading

@@ -15,8 +15,10 @@ use Rattle.automaton.proofs.Counting.{and-true, same-list-refl, same-list-true,
 use Rattle.automaton.proofs.WellFormed.{IsTable, getD-map-within}
 use Rattle.automaton.proofs.Refining.{NamedByFirst, class-positive, classes-after-named, classes-after}
 use Rattle.definitions.specs.Bytes.{byte}
+use Rattle.definitions.specs.Situation.{emptySet}
 use Rattle.tables.specs.Rows.{rowIn, lookedUp}
 use Rattle.join.specs.Classes.{rowsWith, InRounds, nextRound, isFirstAlike}
+use Rattle.join.specs.Words.{withMoved}
 use Rattle.tables.proofs.TableBytes.{row-is, rows-count, bytes-are-table, cons-at}
 use Rattle.automaton.proofs.Congruence.{map-same}
 
@@ -29,19 +31,23 @@ module _ (f : ℕ → ℕ) (row other : List ℕ) (w : ℕ) (long : w ≤ length
   row-length : (xs : List ℕ) → w ≤ length xs → length (map f (take w xs)) ≡ w
   row-length xs l = length-map (take w xs) f ∙ length-take-le w xs l
 
+  pub rows-equal : ((c : ℕ) → c < w → f (getD row c 0) ≡ f (getD other c 0)) → map f (take w row) ≡ map f (take w other)
+  rows-equal same =
+      ext-getD 0 (map f (take w row)) (map f (take w other)) (row-length row long ∙ sym (row-length other long-other))
+      (λ c b. let l : c < w = omega (arith, row-length row long) in entry-at row c long l ∙ same c l ∙ sym (entry-at other c long-other l))
+
   pub rows-same : ((c : ℕ) → c < w → f (getD row c 0) ≡ f (getD other c 0)) → true ≡ sameList (map f (take w row)) (map f (take w other))
-  rows-same same =
-      let equal : map f (take w row) ≡ map f (take w other) = ext-getD 0 (map f (take w row)) (map f (take w other)) (row-length row long ∙ sym (row-length other long-other))
-      (λ c b. let l : c < w = omega (arith, row-length row long) in entry-at row c long l ∙ same c l ∙ sym (entry-at other c long-other l)) in
-      sym (rw equal (same-list-refl (map f (take w other))))
+  rows-same same = sym (rw (rows-equal same) (same-list-refl (map f (take w other))))
+
+  pub entries-equal : map f (take w row) ≡ map f (take w other) → (c : ℕ) → c < w → f (getD row c 0) ≡ f (getD other c 0)
+  entries-equal equal c l = sym (entry-at row c long l) ∙ ap (λ (xs : List ℕ). getD xs c 0) equal ∙ entry-at other c long-other l
 
   pub rows-differ : (c : ℕ) → c < w → (f (getD row c 0) ≡ f (getD other c 0) → ⊥) → false ≡ sameList (map f (take w row)) (map f (take w other))
   rows-differ c l differ = go (sameList (map f (take w row)) (map f (take w other))) refl
     where
       go : (b : Bool) → sameList (map f (take w row)) (map f (take w other)) ≡ b → false ≡ b
       go true e =
-          let equal = same-list-true (map f (take w row)) (map f (take w other)) e in
-          absurd (differ (sym (entry-at row c long l) ∙ ap (λ (xs : List ℕ). getD xs c 0) equal ∙ entry-at other c long-other l))
+          absurd (differ (entries-equal (same-list-true (map f (take w row)) (map f (take w other)) e) c l))
       go false e = refl
 
 -- ---- the states of a table, from 1 on, with their classes in an array
@@ -70,6 +76,9 @@ module _ {raw : List ℕ} {w : ℕ} {classes : List ℕ} (now : InRounds raw w c
 
   new-class-at : (x : ℕ) → byte (nextRound raw w classes) x ≡ classOf fine x
   new-class-at x = ap (λ (l : List ℕ). byte l x) next-is ∙ cons-at fine x
+
+  pub first-unmoved : withMoved classes (nextRound raw w classes) 0 emptySet ≡ emptySet
+  first-unmoved = rw (eq-eqb (byte classes 0) 0 (class-at 0))
 
   pub next-length : length (nextRound raw w classes) ≡ length classes
   next-length =
@@ -138,6 +147,19 @@ module _ {raw : List ℕ} {w : ℕ} {classes : List ℕ} (now : InRounds raw w c
             let hit = place-hit (sameList (getD (classRows cs rows) (s - 1) [])) [] (classRows cs rows) j (sym (class-is-first s p (omega arith)) ∙ e) in
             rw one (sym (same-list-true (getD (classRows cs rows) (s - 1) []) (getD (classRows cs rows) j []) (hit .1)))
 
+    row-of : (x : ℕ) → 1 ≤ x → x ≤ n → lookedUp classes w (drop ((x - 1) * w) raw) ≡ getD (classRows cs rows) (x - 1) []
+    row-of x px lx = row-classes (x - 1) (omega arith)
+
+    -- a state that leads to the same classes has the same new class
+    same-class : (t : ℕ) → 1 ≤ t → t ≤ n → lookedUp classes w (drop ((t - 1) * w) raw) ≡ lookedUp classes w (drop ((s - 1) * w) raw) → classOf fine t ≡ f
+    same-class t pt lt same =
+        class-is-first t pt lt ∙ ap (firstLike (classRows cs rows)) (sym (row-of t pt lt) ∙ same ∙ row-of s p (omega arith))
+        ∙ sym (class-is-first s p (omega arith))
+
+    -- the first state of the new class leads to the same classes
+    pub class-row : lookedUp classes w (drop ((byte (nextRound raw w classes) s - 1) * w) raw) ≡ lookedUp classes w (drop ((s - 1) * w) raw)
+    class-row = rw (new-class-at s) (row-of f positive (omega (arith, low)) ∙ equal ∙ sym (row-of s p (omega arith)))
+
     -- the search for the class begins at or before it
     pub search-begins : (1 ≤ byte classes s) × (byte classes s ≤ byte (nextRound raw w classes) s)
     search-begins =
@@ -147,6 +169,18 @@ module _ {raw : List ℕ} {w : ℕ} {classes : List ℕ} (now : InRounds raw w c
           omega (arith, old-named .low f (omega (arith, count, low)), together),
         )
 
+    pub class-bounds : (1 ≤ byte classes s) × (byte classes s ≤ s)
+    class-bounds = (search-begins .0, omega (arith, class-at s, old-named .low s (omega (arith, count))))
+
+    -- a state stays in its class if the first state of the class leads to the same classes
+    pub keeps-class : lookedUp classes w (drop ((byte classes s - 1) * w) raw) ≡ lookedUp classes w (drop ((s - 1) * w) raw)
+        → byte (nextRound raw w classes) s ≡ byte classes s
+    keeps-class same =
+        let b = class-bounds in
+        let k = search-begins in
+        let class = same-class (byte classes s) (b .0) (omega arith) same in
+        omega (arith, new-class-at s, named .low (byte classes s) (omega (arith, count)))
+
     pub class-low : byte (nextRound raw w classes) s ≤ s
     class-low = omega (arith, new-class-at s, low)
 
@@ -154,17 +188,11 @@ module _ {raw : List ℕ} {w : ℕ} {classes : List ℕ} (now : InRounds raw w c
     search-ends b = omega (arith, new-class-at s, low)
 
     module _ (next : List ℕ) (t : ℕ) (pt : 1 ≤ t) (b : t < s) (not-after : t ≤ byte (nextRound raw w classes) s) where
-      row-of : (x : ℕ) → 1 ≤ x → x ≤ n → lookedUp classes w (drop ((x - 1) * w) raw) ≡ getD (classRows cs rows) (x - 1) []
-      row-of x px lx = row-classes (x - 1) (omega arith)
-
       pub search-found : isFirstAlike raw w classes next s t ≡ true → t ≡ byte (nextRound raw w classes) s
       search-found e =
           let first = and-true (eqb (byte classes t) (byte classes s)) _ e in
           let second = and-true (eqb (byte next t) t) _ (first .1) in
-          let same : getD (classRows cs rows) (t - 1) [] ≡ getD (classRows cs rows) (s - 1) [] =
-          sym (row-of t pt (omega arith)) ∙ same-list-true _ _ (second .1) ∙ row-of s p (omega arith) in
-          let class : classOf fine t ≡ f =
-          class-is-first t pt (omega arith) ∙ ap (firstLike (classRows cs rows)) same ∙ sym (class-is-first s p (omega arith)) in
+          let class = same-class t pt (omega arith) (same-list-true _ _ (second .1)) in
           omega (arith, named .low t (omega (arith, count)), new-class-at s)
 
       pub search-passed : take s next ≡ take s (nextRound raw w classes) → isFirstAlike raw w classes next s t ≡ false → t + 1 ≤ byte (nextRound raw w classes) s

@@ -1,6 +1,5 @@
 -- Rounds of refinement until one changes nothing: each round before divides a class, and then the classes are those of alike states.
 use mathlib.Core.Path.{_≡_, refl, sym, ap, _∙_}
-use mathlib.Core.Bool.{true, false, true≢false}
 use mathlib.Core.List.{List, [], _∷_, _++_, map, append-nil}
 use Prim.Native.Nat.{ℕ, zero, suc, _+_, _-_, _<_, _≤_}
 use native.Mathlib.Omega.{arith}
@@ -8,9 +7,8 @@ use native.Mathlib.Decide.{decLt}
 use lib.Dec.{eqb}
 use lib.ListN.{length, getD, take, drop, replicate, length-replicate, getD-replicate, drop-of-length-le}
 use lib.Seq.{take-all}
-use Rattle.automaton.specs.Below.{sameList}
 use Rattle.automaton.specs.Join.{refine, together, classesAfter, classes}
-use Rattle.automaton.proofs.Counting.{countBelow, count-below-le, same-list-refl, same-list-true}
+use Rattle.automaton.proofs.Counting.{countBelow, count-below-le}
 use Rattle.automaton.proofs.Settled.{classCount, settled-by-count, classes-settled}
 use Rattle.definitions.specs.Bytes.{byte}
 use Rattle.tables.specs.Rows.{rowsIn, TableIn}
@@ -74,7 +72,7 @@ module _ {raw : List ℕ} {w : ℕ} {array : List ℕ} (now : InRounds raw w arr
     rows-same = ap (λ (k : ℕ). rowsIn raw (k - 1) w) long
 
     -- a round that changes something divides a class
-    pub settling-less : sameList array next ≡ false → length next - ownClasses next < length array - ownClasses array
+    pub settling-less : (array ≡ next → ⊥) → length next - ownClasses next < length array - ownClasses array
     settling-less differ = go (decLt (classCount rows (now .rounds)) (classCount rows (suc (now .rounds))))
       where
         more : ownClasses next ≡ classCount rows (suc (now .rounds))
@@ -88,18 +86,15 @@ module _ {raw : List ℕ} {w : ℕ} {array : List ℕ} (now : InRounds raw w arr
         go (no l) =
             let same = settled-by-count w rows (is-table now) (now .rounds) (omega arith) in
             let equal : array ≡ next = now .are ∙ ap (λ (l : List ℕ). 0 ∷ l) (sym same) ∙ sym (e ∙ next-is now) in
-            absurd (true≢false (sym (same-list-refl next) ∙ ap (λ (l : List ℕ). sameList l next) (sym equal) ∙ differ))
+            absurd (differ equal)
 
     -- a round that changes nothing is the last
-    pub settling-done : (old : List ℕ) → length array ≡ length old → sameList array next ≡ true
-        → (array ≡ lastRound raw w old) × (next ≡ lastRound raw w old)
-    settling-done old same-length same =
-        let equal : array ≡ next = same-list-true array next same in
+    pub settling-done : (old : List ℕ) → length array ≡ length old → array ≡ next → next ≡ lastRound raw w old
+    settling-done old same-length equal =
         let still : refine rows (classesAfter rows (now .rounds)) ≡ classesAfter rows (now .rounds) =
         ap (λ (l : List ℕ). drop 1 l) (sym (e ∙ next-is now) ∙ sym equal ∙ now .are) in
         let last : array ≡ lastRound raw w array = now .are ∙ ap (λ (l : List ℕ). 0 ∷ l) (sym (classes-settled w rows (is-table now) (now .rounds) still)) in
-        let done : array ≡ lastRound raw w old = last ∙ ap (λ (k : ℕ). 0 ∷ classes (rowsIn raw (k - 1) w)) same-length in
-        (done, sym equal ∙ done)
+        sym equal ∙ last ∙ ap (λ (k : ℕ). 0 ∷ classes (rowsIn raw (k - 1) w)) same-length
 
 -- a whole list is copied
 pub copied : (from to : List ℕ) → length from ≡ length to → take (length from) from ++ drop (length from) to ≡ from

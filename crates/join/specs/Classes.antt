@@ -2,7 +2,8 @@
 use mathlib.Core.Path.{_≡_}
 use mathlib.Core.Bool.{Bool, _&&_}
 use mathlib.Core.List.{List, _∷_}
-use Prim.Native.Nat.{ℕ, _-_, _*_, _≤_}
+use Prim.Native.Nat.{ℕ, _-_, _*_, _<_, _≤_}
+use lib.Bits.{bitAnd, bitOr}
 use lib.Dec.{eqb}
 use lib.ListN.{length, drop, replicate}
 use Rattle.automaton.specs.Below.{sameList}
@@ -37,3 +38,9 @@ lastRound raw w classOf = 0 ∷ classes (rowsWith raw w classOf)
 abbrev pub isFirstAlike : List ℕ → ℕ → List ℕ → List ℕ → ℕ → ℕ → Bool
 isFirstAlike raw w classOf next s t =
     eqb (byte classOf t) (byte classOf s) && (eqb (byte next t) t && sameList (lookedUp classOf w (drop ((t - 1) * w) raw)) (lookedUp classOf w (drop ((s - 1) * w) raw)))
+
+-- the next round leaves a state in its class if neither it nor the first state of its class leads to a state in the word `moved`; leads has the word of each row
+pub record Stays (raw : List ℕ) (w : ℕ) (leads : List ℕ) (moved : ℕ) (classOf : List ℕ) : Type 0 where
+  pub words : length leads ≡ length classOf - 1
+  pub stays : (s : ℕ) → 1 ≤ s → s < length classOf → bitAnd (bitOr (byte leads (s - 1)) (byte leads (byte classOf s - 1))) moved ≡ 0
+      → byte (nextRound raw w classOf) s ≡ byte classOf s

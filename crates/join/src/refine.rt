@@ -6,9 +6,12 @@ ghost use lib.ListN.{length, take};
 ghost use Rattle.automaton.specs.Below.{sameList};
 ghost use Rattle.definitions.specs.Bytes.{byte};
 ghost use Rattle.tables.specs.Rows.{lookedUp, TableIn, EntriesBelow};
-ghost use Rattle.join.specs.Classes.{InRounds, oneClass, nextRound, lastRound, isFirstAlike};
+ghost use Rattle.join.specs.Classes.{InRounds, Stays, oneClass, nextRound, lastRound, isFirstAlike};
+ghost use Rattle.join.specs.Words.{movedStates};
+use crate::words::ALL_STATES;
+use crate::words::fill_leads;
+use crate::words::with_moved;
 use automaton::wide;
-use book::same_bytes;
 
 // Whether the first `w` entries of two rows lead to the same classes.
 fn same_classes(row: &[u8], other: &[u8], w: usize, classes: &[u8]) -> bool
@@ -61,18 +64,45 @@ fn first_alike(raw: &[u8], w: usize, classes: &[u8], next: &[u8], s: usize) -> u
     s
 }
 
-// One round: the new class of each state, in `next`.
-fn round(raw: &[u8], w: usize, classes: &[u8], next: &mut [u8])
-    requires { ⌜ InRounds (now raw) w (now classes) ⌝ }
+// The same, without a search where the state stays in its class: neither it nor the first state of its class leads to a state that the round before moved.
+fn next_class(
+    raw: &[u8],
+    w: usize,
+    leads: &[u64],
+    moved: u64,
+    classes: &[u8],
+    next: &[u8],
+    s: usize,
+) -> usize
+    requires { ⌜ InRounds (now raw) w (now classes) × Stays (now raw) w (now leads) moved (now classes) ⌝ }
+    requires { ⌜ (1 ≤ s) × (s < length (now classes)) × (length (now next) ≡ length (now classes)) ⌝ }
+    requires { ⌜ take s (now next) ≡ take s (nextRound (now raw) w (now classes)) ⌝ }
+    ensures { λ r. ⌜ r ≡ byte (nextRound (now (raw .entry)) w (now (classes .entry))) s ⌝ }
+{
+    let t = wide(classes[s]);
+    if (leads[s - 1] | leads[t - 1]) & moved == 0 {
+        return t;
+    }
+    first_alike(raw, w, classes, next, s)
+}
+
+// One round: the new class of each state, in `next`. Gives the word of the states that moved to another class.
+fn round(raw: &[u8], w: usize, leads: &[u64], moved: u64, classes: &[u8], next: &mut [u8]) -> u64
+    requires { ⌜ InRounds (now raw) w (now classes) × Stays (now raw) w (now leads) moved (now classes) ⌝ }
     requires { ⌜ length (now next) ≡ length (now classes) ⌝ }
+    ensures { λ r. ⌜ r ≡ movedStates (now (classes .entry)) (nextRound (now (raw .entry)) w (now (classes .entry))) ⌝ }
     ensures { λ _. ⌜ now (next .exit) ≡ nextRound (now (raw .entry)) w (now (classes .entry)) ⌝ }
 {
     next[0] = 0;
+    let mut word = 0;
     let mut s = 1;
     while s < classes.len() {
-        next[s] = first_alike(raw, w, classes, next, s) as u8;
+        let class = next_class(raw, w, leads, moved, classes, next, s);
+        next[s] = class as u8;
+        word = with_moved(word, s, wide(classes[s]), class);
         s += 1;
     }
+    word
 }
 
 // All states in one class, as before the first round.
@@ -88,16 +118,29 @@ fn begin(classes: &mut [u8])
     }
 }
 
-// The classes of alike states: rounds until one changes nothing. `next` is room for a round, and ends with the same classes.
+// The classes of alike states: rounds until one moves no state. `leads` and `next` are room to work in.
+fn refine_in(raw: &[u8], w: usize, leads: &mut [u64], classes: &mut [u8], next: &mut [u8])
+    requires { ⌜ TableIn (now raw) (length (now classes) - 1) w × (length (now classes) ≤ 128) ⌝ }
+    requires { ⌜ (length (now leads) ≡ length (now classes) - 1) × (length (now next) ≡ length (now classes)) ⌝ }
+    ensures { λ _. ⌜ now (classes .exit) ≡ lastRound (now (raw .entry)) w (now (classes .entry)) ⌝ }
+    ensures { λ _. ⌜ now (next .exit) ≡ lastRound (now (raw .entry)) w (now (classes .entry)) ⌝ }
+{
+    fill_leads(raw, w, leads);
+    begin(classes);
+    let mut moved = ALL_STATES;
+    while moved != 0 {
+        moved = round(raw, w, leads, moved, classes, next);
+        bytes::copy(next, classes);
+    }
+}
+
+// The classes of alike states. `next` is room for a round, and ends with the same classes.
 pub fn refine_all(raw: &[u8], w: usize, classes: &mut [u8], next: &mut [u8])
     requires { ⌜ TableIn (now raw) (length (now classes) - 1) w × (length (now classes) ≤ 128) × (length (now next) ≡ length (now classes)) ⌝ }
     ensures { λ _. ⌜ now (classes .exit) ≡ lastRound (now (raw .entry)) w (now (classes .entry)) ⌝ }
     ensures { λ _. ⌜ now (next .exit) ≡ lastRound (now (raw .entry)) w (now (classes .entry)) ⌝ }
 {
-    begin(classes);
-    round(raw, w, classes, next);
-    while !same_bytes(classes, next) {
-        bytes::copy(next, classes);
-        round(raw, w, classes, next);
-    }
+    let mut leads = [0u64; 127];
+    let n = classes.len() - 1;
+    refine_in(raw, w, &mut leads[..n], classes, next);
 }

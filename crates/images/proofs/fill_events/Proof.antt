@@ -1,4 +1,4 @@
--- `policy::images::fill_events` meets its contract. The loop's invariant: the first e entries are filled.
+-- `images::fill_events` meets its contract. The loop's invariant: the first e entries are filled.
 use mathlib.Core.Path.{_≡_, ap, _∙_}
 use Prim.Native.Nat.{ℕ, _≤_, _-_}
 use native.Mathlib.Omega.{arith}
@@ -6,18 +6,18 @@ use borrow.Author.Needs.{needs}
 use Rattle.automaton.proofs.Loops.{row-within}
 use Rattle.definitions.specs.Policy.{events}
 use Rattle.definitions.specs.Situation.{emptySet, insert}
-use Rattle.images.specs.Tables.{Filled}
+use Rattle.images.specs.Tables.{Filled, entryOf}
 use Rattle.images.specs.Images.{eventFrom}
-use Rattle.images.proofs.Tables.{filled-none, filled-more}
+use Rattle.images.proofs.Tables.{filled-more}
 use Rattle.images.proofs.Targets.{event-spread, event-target}
 use Rattle.images.proofs.fill_events.Statement.{statement}
 use Rattle.images.proofs.fill_events.Tie as tie
 
 abbrev Inv-loop : tie.InvT-loop
-Inv-loop policy changes bounds v row₀ n step e₀ row e = (e ≤ n) × Filled 0 0 e (eventFrom policy v) row₀ row
+Inv-loop policy changes bounds values row₀ n step e₀ row e = (e ≤ n) × Filled 0 0 e (eventFrom policy (entryOf values)) row₀ row
 
 abbrev μ-loop : tie.MeasureT-loop
-μ-loop policy changes bounds v row₀ n step e₀ row e = n - e
+μ-loop policy changes bounds values row₀ n step e₀ row e = n - e
 
 events-requires : tie.Need-events-requires Inv-loop μ-loop
 events-requires c κs = search needs
@@ -26,9 +26,7 @@ variables-requires : tie.Need-variables-requires Inv-loop μ-loop
 variables-requires c κs = search needs
 
 loop-holds : tie.Need-loop-holds Inv-loop μ-loop
-loop-holds c =
-    let start = c .before .before .before .before .before .before in
-    (search needs, filled-none 0 0 (eventFrom (start .args .policy .now) (start .args .v)) (start .args .row .now))
+loop-holds c = search needs
 
 mul-first : tie.Need-mul-first Inv-loop μ-loop
 mul-first c =
@@ -36,10 +34,11 @@ mul-first c =
 
 carried-out-requires : tie.Need-carried-out-requires Inv-loop μ-loop
 carried-out-requires c κs =
-    let start = c .before .before .before .before .before .before .before .before in
+    let start = c .before .before .before .before .before .before .before .before .before in
     let variables = c .before .before .variables in (
       start .pre .0,
       start .pre .2,
+      start .pre .3,
       event-spread (start .args .policy .now) (start .args .changes .now) (variables .result) (c .before .loop .e) (start .pre .1) (variables .ensures .0) (omega arith),
     )
 
@@ -60,13 +59,13 @@ loop-less c = search needs
 
 loop-again : tie.Need-loop-again Inv-loop μ-loop
 loop-again c =
-    let start = c .before .before .before .before .before .before .before .before .before .before in
+    let start = c .before .before .before .before .before .before .before .before .before .before .before in
     let variables = c .before .before .before .before .variables in
     let loop = c .before .before .before .loop in
     let a = start .args in
-    let e = c .before .carried-out .ensures .0 ∙ event-target (a .policy .now) (a .changes .now) (variables .result) (loop .e) (start .pre .1) (variables .ensures .0) (a .v) in (
+    let e = event-target (a .policy .now) (a .changes .now) (variables .result) (loop .e) (start .pre .1) (variables .ensures .0) (entryOf (a .values .now)) (c .before .carried-out .result) (c .before .carried-out .ensures .0) in (
       omega arith,
-      filled-more 0 0 (loop .e) (eventFrom (a .policy .now) (a .v)) (a .row .now) (loop .row) (c .with .result .set) (omega arith) (omega arith) (loop .inv .1)
+      filled-more 0 0 (loop .e) (eventFrom (a .policy .now) (entryOf (a .values .now))) (a .row .now) (loop .row) (c .with .result .set) (omega arith) (omega arith) (loop .inv .1)
           (c .with .ensures ∙ ap (λ (u : ℕ). insert u emptySet) e),
     )
 
@@ -75,7 +74,7 @@ same-length c = search needs
 
 returns : tie.Need-returns Inv-loop μ-loop
 returns c =
-    let start = c .before .before .before .before .before .before .before .before in
+    let start = c .before .before .before .before .before .before .before .before .before in
     let e : c .before .loop .e ≡ events (start .args .policy .now) = omega arith in
     rw (← e) (c .before .loop .inv .1)
 

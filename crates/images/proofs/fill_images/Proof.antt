@@ -1,8 +1,6 @@
--- `policy::images::fill_images` meets its contract.
+-- `images::fill_images` meets its contract.
 use mathlib.Core.Path.{_≡_, ap}
-use mathlib.Core.Bool.{false}
-use Prim.Native.Nat.{_≤_, _+_, _-_, _*_}
-use native.Mathlib.Nat.{mul-le-mul}
+use Prim.Native.Nat.{_+_, _-_}
 use native.Mathlib.Omega.{arith}
 use lib.ListN.{length, take, drop}
 use borrow.Author.Needs.{needs}
@@ -10,7 +8,8 @@ use Rattle.definitions.specs.Policy.{fields, rules, requests, variables}
 use Rattle.definitions.specs.Valuation.{bound}
 use Rattle.policy.specs.declared.shape.Shape.{Shape}
 use Rattle.policy.specs.Sized.{Passed, TableOf}
-use Rattle.images.specs.Images.{letsAt, ruleDecision}
+use Rattle.images.specs.Rules.{lettingRequest}
+use Rattle.images.specs.Images.{ruleLevel, ruleDecision}
 use Rattle.policy.proofs.Checked.{passed}
 use Rattle.images.proofs.Imaged.{images-filled}
 use Rattle.policy.proofs.Parts.{lent-table}
@@ -27,9 +26,6 @@ fields-are c = ap (λ (s : Shape). s .fields) (c .pre .1)
 lent : (c : tie.Start)
     → TableOf (c .args .policy .now) (take (length (c .args .policy .now) - (9 + c .args .shape .fields)) (drop (9 + c .args .shape .fields) (c .args .policy .now)))
 lent c = lent-table (c .args .policy .now) (c .args .shape .fields) (fine c .sized) (fields-are c)
-
-lets-fit : (c : tie.Start) → requests (c .args .policy .now) * rules (c .args .policy .now) ≤ 2048
-lets-fit c = let h = fine c in mul-le-mul {n₂ = 64} {m₂ = 32} (omega arith) (omega arith)
 
 add-after-counts : tie.Need-add-after-counts
 add-after-counts c = let h = fine (c .before .before .before) in omega (arith, fields-are (c .before .before .before))
@@ -53,13 +49,18 @@ slice-aggregate-fill-lets : tie.Need-slice-aggregate-fill-lets
 slice-aggregate-fill-lets c = search needs
 
 fill-lets-requires : tie.Need-fill-lets-requires
-fill-lets-requires c κs = (fine (c .before .before .before .before .before .before .before .before), lent (c .before .before .before .before .before .before .before .before), lets-fit (c .before .before .before .before .before .before .before .before))
+fill-lets-requires c κs = (fine (c .before .before .before .before .before .before .before .before), lent (c .before .before .before .before .before .before .before .before), fine (c .before .before .before .before .before .before .before .before) .fewRequests)
 
-slice-aggregate-fill-decisions : tie.Need-slice-aggregate-fill-decisions
-slice-aggregate-fill-decisions c = search needs
+slice-aggregate-fill-levels : tie.Need-slice-aggregate-fill-levels
+slice-aggregate-fill-levels c = search needs
 
-fill-decisions-requires : tie.Need-fill-decisions-requires
-fill-decisions-requires c κs = (lent (c .before .before .before .before .before .before .before .before .before .before .before), fine (c .before .before .before .before .before .before .before .before .before .before .before) .sized .fewRules)
+slice-aggregate-fill-levels-2 : tie.Need-slice-aggregate-fill-levels-2
+slice-aggregate-fill-levels-2 c = search needs
+
+fill-levels-requires : tie.Need-fill-levels-requires
+fill-levels-requires c κs =
+    let start = c .before .before .before .before .before .before .before .before .before .before .before .before in
+    (lent start, fine start .sized .fewRules, fine start .sized .fewRules)
 
 slice-aggregate-fill-rows : tie.Need-slice-aggregate-fill-rows
 slice-aggregate-fill-rows c = search needs
@@ -70,12 +71,15 @@ slice-aggregate-fill-rows-2 c = search needs
 slice-aggregate-fill-rows-3 : tie.Need-slice-aggregate-fill-rows-3
 slice-aggregate-fill-rows-3 c = search needs
 
+slice-aggregate-fill-rows-4 : tie.Need-slice-aggregate-fill-rows-4
+slice-aggregate-fill-rows-4 c = search needs
+
 fill-rows-requires : tie.Need-fill-rows-requires
 fill-rows-requires c κs =
-    let start = c .before .before .before .before .before .before .before .before .before .before .before .before .before .before .before .before .before in
-    let fill-bounds = c .before .before .before .before .before .before .before .before .before .before .before .fill-bounds in
-    let fill-lets = c .before .before .before .before .before .before .before .before .fill-lets in
-    let fill-decisions = c .before .before .before .before .before .fill-decisions in
+    let start = c .before .before .before .before .before .before .before .before .before .before .before .before .before .before .before .before .before .before .before .before in
+    let fill-bounds = c .before .before .before .before .before .before .before .before .before .before .before .before .before .before .fill-bounds in
+    let fill-lets = c .before .before .before .before .before .before .before .before .before .before .before .fill-lets in
+    let fill-levels = c .before .before .before .before .before .before .before .fill-levels in
     let p = start .args .policy .now in
     let h = fine start in (
       record {
@@ -83,8 +87,9 @@ fill-rows-requires c κs =
         ruled = lent start;
         shaped = start .pre .1;
         bounded = filled-tabled 0 (variables p) (bound p) _ _ (fill-bounds .ensures) (h .sized .fewVariables);
-        letting = filled-tabled false (requests p * rules p) (letsAt p) _ _ (fill-lets .ensures) (lets-fit start);
-        deciding = filled-tabled 0 (rules p) (ruleDecision p) _ _ (fill-decisions .ensures) (h .sized .fewRules);
+        letting = filled-tabled 0 (requests p) (lettingRequest p) _ _ (fill-lets .ensures) (h .fewRequests);
+        leveled = filled-tabled 0 (rules p) (ruleLevel p) _ _ (fill-levels .ensures .0) (h .sized .fewRules);
+        deciding = filled-tabled 0 (rules p) (ruleDecision p) _ _ (fill-levels .ensures .1) (h .sized .fewRules);
       },
       start .pre .2,
     )
@@ -94,7 +99,7 @@ same-length c = search needs
 
 returns : tie.Need-returns
 returns c =
-    let start = c .before .before .before .before .before .before .before .before .before .before .before .before .before .before .before .before .before .before .before .before in
+    let start = c .before .before .before .before .before .before .before .before .before .before .before .before .before .before .before .before .before .before .before .before .before .before .before in
     images-filled (start .args .policy .now) (start .args .images .now) _ (c .before .before .fill-rows .ensures)
 
 pub fill-images-spec : {M : Type 1} → statement M
@@ -109,11 +114,13 @@ fill-images-spec =
     fill-bounds-requires
     slice-aggregate-fill-lets
     fill-lets-requires
-    slice-aggregate-fill-decisions
-    fill-decisions-requires
+    slice-aggregate-fill-levels
+    slice-aggregate-fill-levels-2
+    fill-levels-requires
     slice-aggregate-fill-rows
     slice-aggregate-fill-rows-2
     slice-aggregate-fill-rows-3
+    slice-aggregate-fill-rows-4
     fill-rows-requires
     same-length
     returns)

@@ -1,4 +1,4 @@
--- `policy::images::fill_rows` meets its contract. The loop's invariant: the rows of the valuations before v are filled.
+-- `images::fill_rows` meets its contract. The loop's invariant: the rows of the valuations before v are filled.
 use mathlib.Core.Path.{_≡_, ap}
 use Prim.Native.Nat.{_≤_, _-_, _+_, _*_}
 use native.Mathlib.Omega.{arith}
@@ -17,10 +17,10 @@ use Rattle.images.proofs.fill_rows.Statement.{statement}
 use Rattle.images.proofs.fill_rows.Tie as tie
 
 abbrev Inv-loop : tie.InvT-loop
-Inv-loop policy table shape bounds lets decisions images₀ w n v₀ images v = (v ≤ n) × Filled 0 0 (v * w) (imageAt policy) images₀ images
+Inv-loop policy table shape bounds lets levels decisions images₀ w n v₀ images v = (v ≤ n) × Filled 0 0 (v * w) (imageAt policy) images₀ images
 
 abbrev μ-loop : tie.MeasureT-loop
-μ-loop policy table shape bounds lets decisions images₀ w n v₀ images v = n - v
+μ-loop policy table shape bounds lets levels decisions images₀ w n v₀ images v = n - v
 
 width-is : (c : tie.Start Inv-loop μ-loop) → c .args .shape .width ≡ width (c .args .policy .now)
 width-is c = ap (λ (s : Shape). s .width) (c .pre .0 .shaped)
@@ -32,16 +32,16 @@ all-fit : (c : tie.Start Inv-loop μ-loop) → c .args .shape .valuations * c .a
 all-fit c = rw (valuations-are c, width-is c) (c .pre .1)
 
 within : (c : tie.In-loop Inv-loop μ-loop)
-    → let start = c .before .before .before .before .before .before .before .before in
+    → let start = c .before .before .before .before .before .before .before .before .before in
     c .before .loop .v * start .args .shape .width + start .args .shape .width ≤ length (c .before .loop .images)
 within c =
-    let start = c .before .before .before .before .before .before .before .before in
+    let start = c .before .before .before .before .before .before .before .before .before in
     let h = row-within (c .before .loop .v) (start .args .shape .valuations) (start .args .shape .width) (c .loop-test .taken) in
     omega (arith, all-fit start, c .before .loop .inv .1 .same-length)
 
 loop-holds : tie.Need-loop-holds Inv-loop μ-loop
 loop-holds c =
-    let start = c .before .before .before .before .before .before in
+    let start = c .before .before .before .before .before .before .before in
     (search needs, rw zero-mul (filled-none 0 0 (imageAt (start .args .policy .now)) (start .args .images .now)))
 
 mul-at : tie.Need-mul-at Inv-loop μ-loop
@@ -61,7 +61,7 @@ part-fill-row-end c = search needs
 
 fill-row-requires : tie.Need-fill-row-requires Inv-loop μ-loop
 fill-row-requires c κs =
-    let start = c .before .before .before .before .before .before .before .before .before in
+    let start = c .before .before .before .before .before .before .before .before .before .before in
     (start .pre .0, rw (part-is-drop, length-drop) (omega (arith, within (c .before), width-is start)))
 
 add-v : tie.Need-add-v Inv-loop μ-loop
@@ -72,11 +72,11 @@ loop-less c = search needs
 
 loop-again : tie.Need-loop-again Inv-loop μ-loop
 loop-again c =
-    let start = c .before .before .before .before .before .before .before .before .before .before .before .before in
+    let start = c .before .before .before .before .before .before .before .before .before .before .before .before .before in
     let loop = c .before .before .before .before .before .loop in
     let fill-row = c .before .before .fill-row in (
       omega arith,
-      rows-more (start .args .policy .now) (start .args .shape .width) (loop .v) (start .args .images .now) (loop .images) _ (width-is start) (within (c .before .before .before .before)) (loop .inv .1) (fill-row .kept .1 .1 .1 .1 .1 .1 .1 .0)
+      rows-more (start .args .policy .now) (start .args .shape .width) (loop .v) (start .args .images .now) (loop .images) _ (width-is start) (within (c .before .before .before .before)) (loop .inv .1) (fill-row .kept .1 .1 .1 .1 .1 .1 .1 .1 .0)
           (fill-row .ensures),
     )
 
@@ -85,7 +85,7 @@ same-length c = c .before .loop .inv .1 .same-length
 
 returns : tie.Need-returns Inv-loop μ-loop
 returns c =
-    let start = c .before .before .before .before .before .before .before .before in
+    let start = c .before .before .before .before .before .before .before .before .before in
     let e : c .before .loop .v ≡ start .args .shape .valuations = omega arith in
     rw (← (valuations-are start), ← (width-is start), ← e) (c .before .loop .inv .1)
 

@@ -1,30 +1,30 @@
--- `policy::images::fill_targets` meets its contract. The loop's invariant: the first k entries are filled.
-use mathlib.Core.Path.{_≡_, _∙_}
+-- `images::fill_targets` meets its contract. The loop's invariant: the first k entries are filled.
+use mathlib.Core.Path.{_≡_}
 use Prim.Native.Nat.{_≤_, _-_, _+_, _*_}
 use native.Mathlib.Omega.{arith}
 use lib.ListN.{length}
 use borrow.Author.Needs.{needs}
 use Rattle.definitions.specs.Policy.{rules}
-use Rattle.images.specs.Tables.{Filled}
+use Rattle.images.specs.Tables.{Filled, entryOf}
 use Rattle.images.specs.Images.{ruleTarget}
 use Rattle.policy.proofs.Parts.{lent-within, lent-rule, lent-is}
-use Rattle.images.proofs.Tables.{filled-none, filled-more}
+use Rattle.images.proofs.Tables.{filled-more}
 use Rattle.images.proofs.Targets.{rule-spread, rule-target}
 use Rattle.images.proofs.fill_targets.Statement.{statement}
 use Rattle.images.proofs.fill_targets.Tie as tie
 
 abbrev Inv-loop : tie.InvT-loop
-Inv-loop policy table bounds v targets₀ size n first k₀ targets k = (k ≤ n) × Filled 0 0 k (ruleTarget policy v) targets₀ targets
+Inv-loop policy table bounds values targets₀ size n first k₀ targets k = (k ≤ n) × Filled 0 0 k (ruleTarget policy (entryOf values)) targets₀ targets
 
 abbrev μ-loop : tie.MeasureT-loop
-μ-loop policy table bounds v targets₀ size n first k₀ targets k = n - k
+μ-loop policy table bounds values targets₀ size n first k₀ targets k = n - k
 
 within : (c : tie.In-loop Inv-loop μ-loop)
-    → let start = c .before .before .before .before .before .before .before .before .before in
+    → let start = c .before .before .before .before .before .before .before .before .before .before in
     let rule-size = c .before .before .before .before .rule-size in
     c .before .loop .k * rule-size .result + rule-size .result ≤ length (start .args .table .now)
 within c =
-    let start = c .before .before .before .before .before .before .before .before .before in
+    let start = c .before .before .before .before .before .before .before .before .before .before in
     let rule-size = c .before .before .before .before .rule-size in
     lent-within (start .args .policy .now) (start .args .table .now) (rule-size .result) (c .before .loop .k) (start .pre .1) (rule-size .ensures .0) (omega arith)
 
@@ -44,9 +44,7 @@ add-first : tie.Need-add-first Inv-loop μ-loop
 add-first c = search needs
 
 loop-holds : tie.Need-loop-holds Inv-loop μ-loop
-loop-holds c =
-    let start = c .before .before .before .before .before .before .before in
-    (search needs, filled-none 0 0 (ruleTarget (start .args .policy .now) (start .args .v)) (start .args .targets .now))
+loop-holds c = search needs
 
 mul-at : tie.Need-mul-at Inv-loop μ-loop
 mul-at c = omega (arith, within c)
@@ -62,12 +60,12 @@ part-carried-out-end c = search needs
 
 carried-out-requires : tie.Need-carried-out-requires Inv-loop μ-loop
 carried-out-requires c κs =
-    let start = c .before .before .before .before .before .before .before .before .before .before in
+    let start = c .before .before .before .before .before .before .before .before .before .before .before in
     let rule-size = c .before .before .before .before .before .rule-size in
     let fields = c .before .before .before .fields in
     let a = start .args in
     let h = lent-rule (a .policy .now) (a .table .now) (rule-size .result) (c .before .before .loop .k) (start .pre .1) (rule-size .ensures .0) (omega arith) in
-    (start .pre .0, start .pre .2, rule-spread (a .policy .now) _ (fields .result) h (fields .ensures .0))
+    (start .pre .0, start .pre .2, start .pre .3, rule-spread (a .policy .now) _ (fields .result) h (fields .ensures .0))
 
 mul-targets : tie.Need-mul-targets Inv-loop μ-loop
 mul-targets c = search needs
@@ -83,15 +81,15 @@ loop-less c = search needs
 
 loop-again : tie.Need-loop-again Inv-loop μ-loop
 loop-again c =
-    let start = c .before .before .before .before .before .before .before .before .before .before .before in
+    let start = c .before .before .before .before .before .before .before .before .before .before .before .before in
     let rule-size = c .before .before .before .before .before .before .rule-size in
     let fields = c .before .before .before .before .fields in
     let loop = c .before .before .before .loop in
     let a = start .args in
     let e = lent-is (a .policy .now) (a .table .now) (rule-size .result) (loop .k) (start .pre .1) (rule-size .ensures .0) (omega arith) in (
       omega arith,
-      filled-more 0 0 (loop .k) (ruleTarget (a .policy .now) (a .v)) (a .targets .now) (loop .targets) (c .carried-out .result) (omega arith) (omega arith) (loop .inv .1)
-          (c .carried-out .ensures .0 ∙ rule-target (a .policy .now) _ (fields .result) (loop .k) (a .v) e (fields .ensures .0)),
+      filled-more 0 0 (loop .k) (ruleTarget (a .policy .now) (entryOf (a .values .now))) (a .targets .now) (loop .targets) (c .carried-out .result) (omega arith) (omega arith) (loop .inv .1)
+          (rule-target (a .policy .now) _ (fields .result) (loop .k) (entryOf (a .values .now)) (c .carried-out .result) (c .carried-out .ensures .0) e (fields .ensures .0)),
     )
 
 same-length : tie.Need-same-length Inv-loop μ-loop
@@ -99,7 +97,7 @@ same-length c = search needs
 
 returns : tie.Need-returns Inv-loop μ-loop
 returns c =
-    let start = c .before .before .before .before .before .before .before .before .before in
+    let start = c .before .before .before .before .before .before .before .before .before .before in
     let e : c .before .loop .k ≡ rules (start .args .policy .now) = omega arith in
     rw (← e) (c .before .loop .inv .1)
 

@@ -16,27 +16,21 @@ Inv-loop classes₀ s₀ classes s = (1 ≤ s) × (s ≤ length classes₀) × (
 abbrev μ-loop : tie.MeasureT-loop
 μ-loop classes₀ s₀ classes s = length classes - s
 
--- src/refine.rt:85:5
 slice-write-classes : tie.Need-slice-write-classes Inv-loop μ-loop
 slice-write-classes c = search needs
 
--- src/refine.rt:87:5
 loop-holds : tie.Need-loop-holds Inv-loop μ-loop
 loop-holds c = (omega arith, simp length-set (c .pre), refl, take-suc-set (c .args .classes .now) 0 0 (c .pre))
 
--- src/refine.rt:88:9
 slice-write-classes-2 : tie.Need-slice-write-classes-2 Inv-loop μ-loop
 slice-write-classes-2 c = c .loop-test .taken
 
--- src/refine.rt:89:9
 add-s : tie.Need-add-s Inv-loop μ-loop
 add-s c = omega (arith, simp length-set at (c .before .loop .inv .2))
 
--- src/refine.rt:87:5
 loop-less : tie.Need-loop-less Inv-loop μ-loop
 loop-less c = simp length-set (omega arith)
 
--- src/refine.rt:87:5
 loop-again : tie.Need-loop-again Inv-loop μ-loop
 loop-again c =
     let p = c .before .before in
@@ -49,11 +43,9 @@ loop-again c =
       fill-turn (oneClass k) (l .classes) (l .s) 1 (l .inv .3) (c .loop-test .taken) (omega arith) (one-class-at k (l .s) (l .inv .0) (omega arith)),
     )
 
--- src/refine.rt:81:1
 same-length : tie.Need-same-length Inv-loop μ-loop
 same-length c = c .before .loop .inv .2 ∙ simp length-set
 
--- src/refine.rt:81:1
 returns : tie.Need-returns Inv-loop μ-loop
 returns c =
     let p = c .before .before in

@@ -14,27 +14,22 @@ Inv-loop raw w classes next s t₀ t = (1 ≤ t) × (t ≤ byte (nextRound raw w
 abbrev μ-loop : tie.MeasureT-loop
 μ-loop raw w classes next s t₀ t = s - t
 
--- src/refine.rt:54:22
 shared-slice-read-wide : tie.Need-shared-slice-read-wide Inv-loop μ-loop
 shared-slice-read-wide c = search needs
 
--- src/refine.rt:54:9
 wide-requires : tie.Need-wide-requires Inv-loop μ-loop
 wide-requires c κs = search needs
 
--- src/refine.rt:55:5
 loop-holds : tie.Need-loop-holds Inv-loop μ-loop
 loop-holds c =
     let p = c .before .before .before .before .before in
     rw (c .wide .ensures .0) (search-begins (p .pre .0) (p .args .s) (p .pre .1 .0 .0) (p .pre .1 .0 .1))
 
--- src/refine.rt:56:12
 is-first-alike-requires : tie.Need-is-first-alike-requires Inv-loop μ-loop
 is-first-alike-requires c κs =
     let p = c .before .before .before .before .before .before .before in
     (p .pre .0, (c .before .loop .inv .0, c .loop-test .taken, p .pre .1 .0 .1, p .pre .1 .0 .2))
 
--- src/refine.rt:57:13
 returns : tie.Need-returns Inv-loop μ-loop
 returns c =
     let p = c .before .before .before .before .before .before .before .before .before in
@@ -42,15 +37,12 @@ returns c =
     search-found (p .pre .0) (p .args .s) (p .pre .1 .0 .0) (p .pre .1 .0 .1) (p .args .next .now) (l .t) (l .inv .0) (c .before .before .loop-test .taken) (l .inv .1)
     (sym (c .before .is-first-alike .ensures) ∙ c .if1 .taken)
 
--- src/refine.rt:59:9
 add-t : tie.Need-add-t Inv-loop μ-loop
 add-t c = search needs
 
--- src/refine.rt:55:5
 loop-less : tie.Need-loop-less Inv-loop μ-loop
 loop-less c = omega arith
 
--- src/refine.rt:55:5
 loop-again : tie.Need-loop-again Inv-loop μ-loop
 loop-again c =
     let p = c .before .before .before .before .before .before .before .before .before in
@@ -60,7 +52,6 @@ loop-again c =
           (sym (c .before .is-first-alike .ensures) ∙ c .if1 .left),
     )
 
--- src/refine.rt:48:1
 returns-2 : tie.Need-returns-2 Inv-loop μ-loop
 returns-2 c =
     let p = c .before .before .before .before .before .before .before in

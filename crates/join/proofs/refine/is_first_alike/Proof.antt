@@ -15,73 +15,56 @@ row-t c = state-row (c .pre .0 .table) (c .args .t) (c .pre .1 .0) (omega (arith
 row-s : (c : tie.Start) → (c .args .s - 1) * c .args .w + c .args .w ≤ length (c .args .raw .now)
 row-s c = state-row (c .pre .0 .table) (c .args .s) (omega (arith, c .pre .1 .0, c .pre .1 .1)) (omega (arith, c .pre .1 .2))
 
--- src/refine.rt:35:8
 shared-slice-read-if1 : tie.Need-shared-slice-read-if1
 shared-slice-read-if1 c = search needs
 
--- src/refine.rt:35:22
 shared-slice-read-if1-2 : tie.Need-shared-slice-read-if1-2
 shared-slice-read-if1-2 c = search needs
 
--- src/refine.rt:36:9
 returns : tie.Need-returns
 returns c = simp (ne-eqb _ _ (c .if1 .taken))
 
--- src/refine.rt:38:13
 shared-slice-read-wide : tie.Need-shared-slice-read-wide
 shared-slice-read-wide c = search needs
 
--- src/refine.rt:38:8
 wide-requires : tie.Need-wide-requires
 wide-requires c κs = search needs
 
--- src/refine.rt:39:9
 returns-2 : tie.Need-returns-2
 returns-2 c =
     let e = rw (c .before .wide .ensures .0) at (c .if2 .taken) in
     simp (eq-eqb _ _ (c .before .before .before .if1 .left), ne-eqb _ _ e)
 
--- src/refine.rt:41:16
 sub-one : tie.Need-sub-one
 sub-one c = search needs
 
--- src/refine.rt:41:15
 mul-one : tie.Need-mul-one
 mul-one c = omega (arith, row-t (c .before .before .before .before .before .before .before .before .before))
 
--- src/refine.rt:42:18
 sub-other : tie.Need-sub-other
 sub-other c = search needs
 
--- src/refine.rt:42:17
 mul-other : tie.Need-mul-other
 mul-other c = omega (arith, row-s (c .before .before .before .before .before .before .before .before .before))
 
--- src/refine.rt:43:18
 sub-same-classes : tie.Need-sub-same-classes
 sub-same-classes c = omega (arith, row-t (c .before .before .before .before .before .before .before .before .before))
 
--- src/refine.rt:43:18
 part-same-classes-start : tie.Need-part-same-classes-start
 part-same-classes-start c = omega (arith, row-t (c .before .before .before .before .before .before .before .before .before))
 
--- src/refine.rt:43:18
 part-same-classes-end : tie.Need-part-same-classes-end
 part-same-classes-end c = search needs
 
--- src/refine.rt:43:31
 sub-same-classes-2 : tie.Need-sub-same-classes-2
 sub-same-classes-2 c = omega (arith, row-s (c .before .before .before .before .before .before .before .before .before .before))
 
--- src/refine.rt:43:31
 part-same-classes-start-2 : tie.Need-part-same-classes-start-2
 part-same-classes-start-2 c = omega (arith, row-s (c .before .before .before .before .before .before .before .before .before .before))
 
--- src/refine.rt:43:31
 part-same-classes-end-2 : tie.Need-part-same-classes-end-2
 part-same-classes-end-2 c = search needs
 
--- src/refine.rt:43:5
 same-classes-requires : tie.Need-same-classes-requires
 same-classes-requires c κs =
     let p = c .before .before .before .before .before .before .before .before .before .before .before in
@@ -96,7 +79,6 @@ same-classes-requires c κs =
       (state-entries (p .pre .0 .table) (a .t) pt (omega (arith, p .pre .1 .1, p .pre .1 .2)) _ some, state-entries (p .pre .0 .table) (a .s) ps (omega (arith, p .pre .1 .2)) _ some),
     )
 
--- src/refine.rt:30:1
 returns-3 : tie.Need-returns-3
 returns-3 c =
     let e = rw (c .before .before .before .before .wide .ensures .0) at (c .before .before .before .if2 .left) in

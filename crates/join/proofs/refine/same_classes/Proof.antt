@@ -14,35 +14,27 @@ Inv-loop row other w classes c₀ c = (c ≤ w) × ((k : ℕ) → k < c → byte
 abbrev μ-loop : tie.MeasureT-loop
 μ-loop row other w classes c₀ c = w - c
 
--- src/refine.rt:20:5
 loop-holds : tie.Need-loop-holds Inv-loop μ-loop
 loop-holds c = search needs
 
--- src/refine.rt:21:25
 shared-slice-read-wide : tie.Need-shared-slice-read-wide Inv-loop μ-loop
 shared-slice-read-wide c = search needs
 
--- src/refine.rt:21:20
 wide-requires : tie.Need-wide-requires Inv-loop μ-loop
 wide-requires c κs = search needs
 
--- src/refine.rt:21:12
 shared-slice-read-if1 : tie.Need-shared-slice-read-if1 Inv-loop μ-loop
 shared-slice-read-if1 c = rw (c .before .wide .ensures .0) (c .before .before .before .before .before .before .before .before .pre .1 .0 (c .before .before .before .before .loop .c) (c .before .before .before .loop-test .taken))
 
--- src/refine.rt:21:50
 shared-slice-read-wide-2 : tie.Need-shared-slice-read-wide-2 Inv-loop μ-loop
 shared-slice-read-wide-2 c = search needs
 
--- src/refine.rt:21:45
 wide-requires-2 : tie.Need-wide-requires-2 Inv-loop μ-loop
 wide-requires-2 c κs = search needs
 
--- src/refine.rt:21:37
 shared-slice-read-if1-2 : tie.Need-shared-slice-read-if1-2 Inv-loop μ-loop
 shared-slice-read-if1-2 c = rw (c .before .wide2 .ensures .0) (c .before .before .before .before .before .before .before .before .before .before .before .pre .1 .1 (c .before .before .before .before .before .before .before .loop .c) (c .before .before .before .before .before .before .loop-test .taken))
 
--- src/refine.rt:22:13
 returns : tie.Need-returns Inv-loop μ-loop
 returns c =
     let p = c .before .before .before .before .before .before .before .before .before .before .before .before in
@@ -50,19 +42,15 @@ returns c =
     rows-differ (byte (a .classes .now)) (a .row .now) (a .other .now) (a .w) (p .pre .0 .0) (p .pre .0 .1) (c .before .before .before .before .before .before .before .before .loop .c) (c .before .before .before .before .before .before .before .loop-test .taken)
     (rw (c .before .before .before .before .before .wide .ensures .0, c .before .before .wide2 .ensures .0) at (c .if1 .taken))
 
--- src/refine.rt:24:9
 add-c : tie.Need-add-c Inv-loop μ-loop
 add-c c = search needs
 
--- src/refine.rt:20:5
 loop-less : tie.Need-loop-less Inv-loop μ-loop
 loop-less c = search needs
 
--- src/refine.rt:20:5
 loop-again : tie.Need-loop-again Inv-loop μ-loop
 loop-again c = (search needs, below-more _ _ (c .before .before .before .before .before .before .before .before .loop .inv .1) (rw (c .before .before .before .before .before .wide .ensures .0, c .before .before .wide2 .ensures .0) at (c .if1 .left)))
 
--- src/refine.rt:14:1
 returns-2 : tie.Need-returns-2 Inv-loop μ-loop
 returns-2 c =
     let p = c .before .before .before .before .before in

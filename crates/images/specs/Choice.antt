@@ -1,0 +1,66 @@
+-- The greatest level among the rules of a set, and the sets of valuations that the rules of that level lead to, by tables of one entry for each rule.
+use mathlib.Core.Path.{_≡_}
+use mathlib.Core.Bool.{cond, true, _&&_}
+use mathlib.Core.List.{List}
+use Prim.Native.Nat.{ℕ, _<_, max}
+use lib.Bits.{bitAnd}
+use lib.Dec.{eqb, ltb}
+use lib.ListN.{length, getD}
+use Rattle.automaton.specs.Below.{foldBelow}
+use Rattle.definitions.specs.Bytes.{bit}
+use Rattle.definitions.specs.Situation.{emptySet, insert, requestOf, decisionOf}
+use Rattle.images.specs.declared.deciding.Choice.{Choice}
+
+-- every rule of the set has its entries
+abbrev pub Listed : ℕ → List ℕ → List ℕ → List ℕ → Type 0
+Listed fits levels decisions targets =
+    (k : ℕ) → bit fits k ≡ true → (k < length levels) × (k < length decisions) × (k < length targets) × (getD targets k 0 < 64)
+
+-- ---- one rule more
+
+-- the set, and the target if the decision is d
+abbrev pub joined : ℕ → ℕ → ℕ → ℕ → ℕ
+joined decision d target set = cond (eqb decision d) (insert target set) set
+
+-- what a rule of this level leaves of where the rules of level `best` lead: nothing if its level is greater
+abbrev pub kept : ℕ → ℕ → ℕ → ℕ
+kept best level set = cond (ltb best level) emptySet set
+
+-- and with where it leads itself, unless its level is lower
+abbrev pub withTarget : ℕ → ℕ → ℕ → ℕ → ℕ → ℕ → ℕ
+withTarget best level decision d target set = cond (ltb level best) set (joined decision d target (kept best level set))
+
+-- ---- the first n rules
+
+abbrev pub levelIn : ℕ → List ℕ → ℕ → ℕ
+levelIn fits levels k = cond (bit fits k) (getD levels k 0) 0
+
+abbrev pub withMost : (ℕ → ℕ) → ℕ → ℕ → ℕ
+withMost f k most = max most (f k)
+
+-- the greatest level of those in the set, 0 if there are none
+abbrev pub greatest : ℕ → List ℕ → ℕ → ℕ
+greatest fits levels n = foldBelow n 0 (withMost (levelIn fits levels))
+
+abbrev pub withChosen : ℕ → List ℕ → List ℕ → List ℕ → ℕ → ℕ → ℕ → ℕ → ℕ
+withChosen fits levels decisions targets best d k set =
+    let more = insert (getD targets k 0) set in
+    cond (eqb (getD decisions k 0) d && (bit fits k && eqb (getD levels k 0) best)) more set
+
+-- where those in the set of level `best` and decision d lead
+abbrev pub chosenBy : ℕ → List ℕ → List ℕ → List ℕ → ℕ → ℕ → ℕ → ℕ
+chosenBy fits levels decisions targets n best d = foldBelow n emptySet (withChosen fits levels decisions targets best d)
+
+-- where those in the set of the greatest level and decision d lead
+abbrev pub leading : ℕ → List ℕ → List ℕ → List ℕ → ℕ → ℕ → ℕ
+leading fits levels decisions targets n d = chosenBy fits levels decisions targets n (greatest fits levels n) d
+
+abbrev pub Chosen : ℕ → List ℕ → List ℕ → List ℕ → ℕ → Choice → Type 0
+Chosen fits levels decisions targets n choice =
+    (choice .best ≡ greatest fits levels n) × (choice .accepted .set ≡ leading fits levels decisions targets n 1)
+    × (choice .rejected .set ≡ leading fits levels decisions targets n 0)
+
+-- the set for code c, where codes from E on are decided requests: entry r of `lets` has the rules that let request r through
+abbrev pub chosenFor : List ℕ → ℕ → List ℕ → List ℕ → List ℕ → ℕ → ℕ → ℕ
+chosenFor lets enabled levels decisions targets E c =
+    leading (bitAnd (getD lets (requestOf E c) 0) enabled) levels decisions targets (length levels) (decisionOf E c)

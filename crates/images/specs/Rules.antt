@@ -1,0 +1,45 @@
+-- Sets of rules, by the values of a request's fields or of the variables. A set of rules is a number in which bit k says that rule k is in it.
+use mathlib.Core.Bool.{Bool, cond}
+use mathlib.Core.List.{List}
+use Prim.Native.Nat.{ℕ}
+use Rattle.automaton.specs.Below.{allBelow, foldBelow}
+use Rattle.definitions.specs.Bytes.{bit}
+use Rattle.definitions.specs.Policy.{fields, variables, rules, rule, mask, value}
+use Rattle.definitions.specs.Situation.{emptySet, insert}
+use Rattle.policy.specs.Record.{partTestPasses}
+
+-- the numbers below n that pass a test
+abbrev pub withPassing : (ℕ → Bool) → ℕ → ℕ → ℕ
+withPassing f k set = cond (f k) (insert k set) set
+
+abbrev pub passing : ℕ → (ℕ → Bool) → ℕ
+passing n f = foldBelow n emptySet (withPassing f)
+
+-- ---- the masks of rule q let the values x of the fields through. At the values of request r this is letsThrough
+abbrev pub maskLetsBy : List ℕ → (ℕ → ℕ) → ℕ → Bool
+maskLetsBy q x f = bit (mask q f) (x f)
+
+abbrev pub letsBy : List ℕ → List ℕ → (ℕ → ℕ) → Bool
+letsBy p q x = allBelow (fields p) (maskLetsBy q x)
+
+abbrev pub ruleLets : List ℕ → (ℕ → ℕ) → ℕ → Bool
+ruleLets p x k = letsBy p (rule p k) x
+
+abbrev pub letting : List ℕ → (ℕ → ℕ) → ℕ
+letting p x = passing (rules p) (ruleLets p x)
+
+abbrev pub lettingRequest : List ℕ → ℕ → ℕ
+lettingRequest p r = letting p (value p r)
+
+-- ---- the tests of rule q are true of the values x of the variables. At the values of valuation v this is enabled
+abbrev pub testPassesBy : List ℕ → List ℕ → (ℕ → ℕ) → ℕ → Bool
+testPassesBy p q x j = partTestPasses p q j (x j)
+
+abbrev pub enabledBy : List ℕ → List ℕ → (ℕ → ℕ) → Bool
+enabledBy p q x = allBelow (variables p) (testPassesBy p q x)
+
+abbrev pub ruleEnabled : List ℕ → (ℕ → ℕ) → ℕ → Bool
+ruleEnabled p x k = enabledBy p (rule p k) x
+
+abbrev pub enabling : List ℕ → (ℕ → ℕ) → ℕ
+enabling p x = passing (rules p) (ruleEnabled p x)

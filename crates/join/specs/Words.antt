@@ -1,0 +1,37 @@
+-- Sets of states as words. States 2k and 2k + 1 share bit k: a word has room for 128 states, and may have a state that was not put in.
+use mathlib.Core.Bool.{cond, not}
+use mathlib.Core.List.{List}
+use Prim.Native.Nat.{ℕ, _*_, _/_}
+use lib.Dec.{eqb}
+use lib.ListN.{length, drop}
+use Rattle.automaton.specs.Below.{foldBelow, listBelow}
+use Rattle.definitions.specs.Bytes.{byte}
+use Rattle.definitions.specs.Situation.{emptySet, insert}
+
+-- the word that has every state
+abbrev pub allStates : ℕ
+allStates = 18446744073709551615
+
+abbrev pub withState : ℕ → ℕ → ℕ
+withState x word = insert (x / 2) word
+
+-- the states that the first w entries of a row lead to
+abbrev pub withEntry : List ℕ → ℕ → ℕ → ℕ
+withEntry row c word = withState (byte row c) word
+
+abbrev pub leadsTo : List ℕ → ℕ → ℕ
+leadsTo row w = foldBelow w emptySet (withEntry row)
+
+-- those of each of the n rows of a table
+abbrev pub rowWord : List ℕ → ℕ → ℕ → ℕ
+rowWord raw w i = leadsTo (drop (i * w) raw) w
+
+abbrev pub rowWords : List ℕ → ℕ → ℕ → List ℕ
+rowWords raw n w = listBelow n (rowWord raw w)
+
+-- the states whose class is not the same in two arrays
+abbrev pub withMoved : List ℕ → List ℕ → ℕ → ℕ → ℕ
+withMoved old new x word = let more = withState x word in cond (not (eqb (byte old x) (byte new x))) more word
+
+abbrev pub movedStates : List ℕ → List ℕ → ℕ
+movedStates old new = foldBelow (length old) emptySet (withMoved old new)
