@@ -5,7 +5,7 @@ use mathlib.Core.Bool.{Bool, cond, true, false}
 use mathlib.Core.List.{List, [], _∷_, _++_}
 use Prim.Native.Nat.{ℕ, zero, suc, _+_, _-_, _*_, _<_, _≤_}
 use native.Mathlib.Omega.{arith}
-use native.Mathlib.Nat.{mul-le-mul, mul-le-mul-right}
+use native.Mathlib.Nat.{mul-le-mul-right}
 use native.Mathlib.Decide.{decLt}
 use lib.Dec.{leb}
 use lib.ListN.{length, getD, drop, List·getD-append}
@@ -18,13 +18,13 @@ use Rattle.automaton.proofs.WellFormed.{IsTable}
 use Rattle.automaton.proofs.Exploring.{reached-sound}
 use Rattle.automaton.proofs.Tables.{table-length, table-is-table}
 use Rattle.definitions.specs.Answer.{judge, refused, given, written}
-use Rattle.definitions.specs.Policy.{fields, width, frame}
+use Rattle.definitions.specs.Policy.{fields, requests, width, frame}
 use Rattle.definitions.specs.Valuation.{valuations}
 use Rattle.definitions.specs.Situation.{policyMachine}
 use Rattle.definitions.specs.Book.{concat, bookBytes}
 use Rattle.definitions.specs.Refusal.{fileRefusal, situations, row11, policyRefusal}
 use Rattle.definitions.specs.Build.{bookRows, bookOf, buildRefusal, buildAnswer, buildBuffer}
-use Rattle.policy.specs.Sized.{Passed}
+use Rattle.policy.specs.Sized.{Sized, Passed}
 use Rattle.policy.proofs.Checked.{passed}
 use Rattle.explore.specs.Images.{imagesMachine}
 use Rattle.explore.specs.Reaches.{allReached, Reaches}
@@ -44,10 +44,16 @@ module _ (p : List ℕ) (e : fileRefusal p ≡ 0) where
   pub valuations-low : valuations p ≤ 64
   valuations-low = has-passed .fewValuations
 
-  pub images-fit : valuations p * width p ≤ 8704
-  images-fit = mul-le-mul valuations-low width-low
+  pub images-fit : valuations p * width p ≤ 64 * width p
+  images-fit = mul-le-mul-right (width p) valuations-low
 
-  pub rows-fit : 127 * width p ≤ 17272
+  pub is-sized : Sized p
+  is-sized = has-passed .sized
+
+  pub width-narrow : requests p ≤ 12 → width p ≤ 32
+  width-narrow l = omega (arith, has-passed .sized .fewEvents)
+
+  rows-fit : 127 * width p ≤ 17272
   rows-fit = omega (arith, width-low)
 
   pub book-fits : (n : ℕ) → n ≤ 127 → 12 + n * width p ≤ 17284

@@ -1,17 +1,21 @@
 -- A state is looked up among the first n of an array, and put in after them where it is new.
 use mathlib.Core.Path.{_≡_, sym, ap, _∙_}
+use mathlib.Core.Bool.{true, false≢true}
 use mathlib.Core.List.{List, [], _∷_, _++_}
-use Prim.Native.Nat.{ℕ, _+_, _<_, _≤_}
+use Prim.Native.Nat.{ℕ, zero, suc, _+_, _-_, _<_, _≤_}
 use native.Mathlib.Omega.{arith}
 use native.Mathlib.Numerals.{add-one}
-use lib.Dec.{eqb}
-use lib.ListN.{length, take, set}
-use lib.Seq.{length-take-le}
+use lib.Dec.{eqb, leb}
+use lib.ListN.{length, getD, take, set}
+use lib.Seq.{length-take-le, getD-take}
+use borrow.Author.Tests.{eqb-true, leb-true, lt-ltb}
 use Rattle.automaton.specs.Below.{placeOf}
+use Rattle.automaton.proofs.Counting.{and-true}
 use Rattle.definitions.specs.Answer.{written}
 use Rattle.definitions.proofs.BookSteps.{is-state}
 use Rattle.tables.specs.States.{numberAmong, withState}
-use Rattle.tables.proofs.States.{number-place, with-none, with-known, with-new, number-new}
+use Rattle.tables.proofs.States.{number-place, number-low, with-few, with-none, with-known, with-new, number-new}
+use Rattle.explore.specs.Reaches.{Once, isNumber}
 use Rattle.tables.proofs.Buffers.{written-take, written-next}
 
 module _ (found : List ℕ) (n x : ℕ) (room : n < length found) where
@@ -22,21 +26,38 @@ module _ (found : List ℕ) (n x : ℕ) (room : n < length found) where
   pub note-none : x ≡ 0 → Noted 0 found
   note-none e = (rw e, rw (e, with-none (take n found)) (sym (written-take n found (omega arith))))
 
-  module _ (state : x ≡ 0 → ⊥) where
-    number : numberAmong (take n found) x ≡ placeOf (eqb x) (take n found)
-    number = number-place (take n found) x (is-state x (omega arith))
+  pub note-known : (r : ℕ) → numberAmong (take n found) x ≡ r → 0 < r → Noted r found
+  note-known r is l =
+      let same : withState (take n found) x ≡ take n found = with-known (take n found) x (is-state (numberAmong (take n found) x) (omega arith)) in
+      (rw same (sym is), rw same (sym (written-take n found (omega arith))))
 
-    pub note-known : (r : ℕ) → r ≡ placeOf (eqb x) (take n found) → 0 < r → Noted r found
-    note-known r e l =
-        let is : numberAmong (take n found) x ≡ r = number ∙ sym e in
-        let same : withState (take n found) x ≡ take n found = with-known (take n found) x (is-state (numberAmong (take n found) x) (omega arith)) in
-        (rw same (sym is), rw same (sym (written-take n found (omega arith))))
+  -- a hint that is right
+  pub note-hint : Once (take n found) → (r : ℕ) → isNumber found n x r ≡ true → Noted r found
+  note-hint once zero e = absurd (false≢true e)
+  note-hint once (suc k) e =
+      let both = and-true (leb (suc k) n) (eqb (getD found (suc k - 1) 0) x) (rw (lt-ltb 0 (suc k) (omega arith)) at e) in
+      let last : suc k - 1 ≡ k = omega arith in
+      let inside : suc k ≤ n = leb-true (suc k) n (both .0) in
+      let here : getD (take n found) k 0 ≡ x = getD-take n found k 0 inside ∙ rw last at (eqb-true (getD found (suc k - 1) 0) x (both .1)) in
+      let place : k < length (take n found) = omega (arith, length-take-le n found (omega arith)) in
+      note-known (suc k) (rw here at (once k place)) (omega arith)
+
+  -- its number is a byte
+  pub noted-low : (r : ℕ) → r ≡ numberAmong (withState (take n found) x) x → r ≤ n + 1
+  noted-low r e = omega (arith, e, number-low (withState (take n found) x) x, with-few (take n found) x, length-take-le n found (omega arith))
+
+  module _ (state : 0 < x) where
+    number : numberAmong (take n found) x ≡ placeOf (eqb x) (take n found)
+    number = number-place (take n found) x (is-state x state)
+
+    pub note-found : (r : ℕ) → r ≡ placeOf (eqb x) (take n found) → 0 < r → Noted r found
+    note-found r e = note-known r (number ∙ sym e)
 
     pub note-new : placeOf (eqb x) (take n found) ≤ 0 → Noted (n + 1) (set found n x)
     note-new l =
         let none : numberAmong (take n found) x ≡ 0 = omega (arith, number) in
         let long : length (take n found) ≡ n = length-take-le n found (omega arith) in
-        let more : withState (take n found) x ≡ take n found ++ (x ∷ []) = with-new (take n found) x (is-state x (omega arith)) none in (
-          rw (more, number-new (take n found) x (is-state x (omega arith)) none, long, add-one),
+        let more : withState (take n found) x ≡ take n found ++ (x ∷ []) = with-new (take n found) x (is-state x state) none in (
+          rw (more, number-new (take n found) x (is-state x state) none, long, add-one),
           rw more (ap (λ (l : List ℕ). set l n x) (sym (written-take n found (omega arith))) ∙ written-next (take n found) found n x long room),
         )

@@ -1,5 +1,6 @@
 -- The search state by state, with the states found in an array and the rows of the table one after another in a buffer.
 use mathlib.Core.Path.{_≡_, sym, ap, _∙_}
+use mathlib.Core.Bool.{true}
 use mathlib.Core.List.{List, [], _∷_}
 use Prim.Native.Nat.{ℕ, _+_, _-_, _*_, _<_, _≤_}
 use native.Mathlib.Omega.{arith}
@@ -8,7 +9,7 @@ use lib.ListN.{length, getD, take, drop, set, length-set}
 use lib.Seq.{take-all, take-suc-set, set-split}
 use borrow.Rule.Slice.PartMut.{putMid}
 use borrow.Author.Tests.{le-leb, lt-leb}
-use Rattle.automaton.specs.Machine.{Machine}
+use Rattle.automaton.specs.Machine.{Machine, isState}
 use Rattle.automaton.specs.Explore.{Reached, reached}
 use Rattle.automaton.specs.Table.{table}
 use Rattle.automaton.proofs.Exploring.{Sound}
@@ -16,11 +17,12 @@ use Rattle.automaton.proofs.Tables.{table-length}
 use Rattle.definitions.specs.Answer.{written}
 use Rattle.tables.specs.Rows.{laid}
 use Rattle.tables.specs.States.{states, afterCodes, rowAmong}
-use Rattle.explore.specs.Reaches.{Visited, allReached, Reaches}
+use Rattle.explore.specs.Reaches.{Once, Visited, allReached, Reaches}
 use Rattle.tables.proofs.States.{length-states}
 use Rattle.tables.proofs.Searched.{Searched, searched-begun, searched-all, searched-low, searched-row, searched-turn, searched-done}
-use Rattle.tables.proofs.Buffers.{written-again, laid-none, laid-front, laid-length, laid-turn}
+use Rattle.tables.proofs.Buffers.{take-written, written-again, laid-none, laid-front, laid-length, laid-turn}
 use Rattle.tables.proofs.TableBytes.{row-of-table, table-wide}
+use Rattle.explore.proofs.Once.{once-one, once-after}
 use Rattle.automaton.proofs.Loops.{row-within}
 
 -- s states have been visited, n are found, and the rows of those visited are written
@@ -28,14 +30,16 @@ pub record Reaching (m : Machine) (L : List Reached) (found₀ raw₀ found raw 
   pub room : 128 ≤ length found₀
   pub long : 127 * m .width ≤ length raw₀
   pub search : Searched m 127 L found₀ found n s
+  pub once : Once (take n found)
   pub rows : raw ≡ laid 0 (take s (table m L)) raw₀
 
 pub reaching-begun : (m : Machine) (L : List Reached) (found raw : List ℕ) → 128 ≤ length found → 127 * m .width ≤ length raw
-    → reached m 127 ≡ L → Sound m L → Reaching m L (set found 0 (m .start)) raw (set found 0 (m .start)) raw 1 0
-reaching-begun m L found raw room long all sound = record {
+    → reached m 127 ≡ L → isState (m .start) ≡ true → Sound m L → Reaching m L (set found 0 (m .start)) raw (set found 0 (m .start)) raw 1 0
+reaching-begun m L found raw room long all begins sound = record {
   room = rw length-set room;
   long = long;
   search = searched-begun m 127 L (set found 0 (m .start)) (omega arith) (rw length-set (omega arith)) (take-suc-set found 0 (m .start) (omega arith)) all sound;
+  once = rw (take-suc-set found 0 (m .start) (omega arith)) (once-one (m .start) begins);
   rows = sym (laid-none 0 raw);
 }
 
@@ -87,6 +91,8 @@ module _ {m : Machine} {L : List Reached} {found₀ raw₀ found raw : List ℕ}
             room = now .room;
             long = now .long;
             search = searched-turn (now .search) b low (omega (arith, now .room)) (visited .count low) (visited .array low);
+            once = rw (visited .array low, take-written (afterCodes m (getD found s 0) (m .width) (take n found)) found r (sym (visited .count low)))
+                (once-after m (getD found s 0) (m .width) (take n found) (now .once));
             rows = laid-turn 0 (m .width) (table m L) raw₀ (table-wide m L) s raw part (s * m .width) (omega (arith, all, table-length m L))
                 (omega (arith, reaching-row, reaching-long)) (now .rows) (sym (zero-add (s * m .width)))
                 (visited .numbers low ∙ ap (λ (row : List ℕ). written row (drop (s * m .width) raw)) is);

@@ -12,10 +12,11 @@ use Rattle.automaton.specs.Explore.{visit}
 use Rattle.automaton.proofs.Counting.{length-list-below}
 use Rattle.definitions.specs.Answer.{written}
 use Rattle.tables.specs.States.{states, bare, numberAmong, withState, afterCodes, rowAmong}
-use Rattle.explore.specs.Reaches.{Visited}
+use Rattle.explore.specs.Reaches.{Once, Visited}
 use Rattle.tables.proofs.States.{states-bare, number-states, number-low, with-length, with-few, after-more, after-grows}
 use Rattle.automaton.proofs.Congruence.{list-below-same}
 use Rattle.automaton.proofs.Turns.{visit-grows}
+use Rattle.explore.proofs.Once.{once-after}
 use Rattle.tables.proofs.Searching.{visit-stays}
 use Rattle.tables.proofs.Buffers.{take-written, length-written, written-next, written-again, written-take}
 
@@ -67,12 +68,15 @@ module _ {m : Machine} {s : ℕ} {l found₀ row₀ found row : List ℕ} {k c :
       rw (now .numbers)
       (length-written (listBelow c (numberAfter m s l)) row₀ (omega (arith, length-list-below (numberAfter m s l) c, now .inside, now .long)))
 
+  old : take k found ≡ afterCodes m s c l
+  old = rw (now .array) (take-written (afterCodes m s c l) found₀ k (sym (now .count)))
+
+  pub trying-once : Once l → Once (take k found)
+  trying-once once = rw old (once-after m s c l once)
+
   -- code c is tried: it leads to x, whose number is then r
   module _ {x r : ℕ} {found′ : List ℕ} (b : c < m .width) (ex : x ≡ step m s c)
       (er : r ≡ numberAmong (withState (take k found) x) x) (ef : found′ ≡ written (withState (take k found) x) found) where
-    old : take k found ≡ afterCodes m s c l
-    old = rw (now .array) (take-written (afterCodes m s c l) found₀ k (sym (now .count)))
-
     more : withState (take k found) x ≡ afterCodes m s (suc c) l
     more = rw (old, ex) (sym (after-more m s c l))
 

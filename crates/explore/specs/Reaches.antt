@@ -1,16 +1,24 @@
 -- What a visit of a state and the whole search leave in the arrays.
 use mathlib.Core.Path.{_≡_}
-use mathlib.Core.Bool.{cond}
+use mathlib.Core.Bool.{Bool, cond, _&&_}
 use mathlib.Core.List.{List}
-use Prim.Native.Nat.{ℕ, _<_, _≤_}
-use lib.Dec.{leb}
-use lib.ListN.{length}
+use Prim.Native.Nat.{ℕ, suc, _-_, _<_, _≤_}
+use lib.Dec.{eqb, leb, ltb}
+use lib.ListN.{length, getD}
 use Rattle.automaton.specs.Machine.{Machine}
 use Rattle.automaton.specs.Explore.{Reached, reached}
 use Rattle.automaton.specs.Table.{table}
 use Rattle.definitions.specs.Answer.{written}
 use Rattle.definitions.specs.Book.{concat}
-use Rattle.tables.specs.States.{states, afterCodes, rowAmong}
+use Rattle.tables.specs.States.{states, numberAmong, afterCodes, rowAmong}
+
+-- each number of the list is a state and stands once: its number is its place
+abbrev pub Once : List ℕ → Type 0
+Once l = (k : ℕ) → k < length l → numberAmong l (getD l k 0) ≡ suc k
+
+-- the number is that of a place among the first n, and x stands there
+abbrev pub isNumber : List ℕ → ℕ → ℕ → ℕ → Bool
+isNumber found n x number = ltb 0 number && (leb number n && eqb (getD found (number - 1) 0) x)
 
 -- state s of m has been visited, with those in l found before: r are found then, in the array found′, and row′ has their numbers. Where r is over 127 there
 -- are over 127, and nothing is said of the arrays

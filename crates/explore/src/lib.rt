@@ -7,10 +7,11 @@ ghost use Rattle.automaton.specs.Below.{placeOf};
 ghost use Rattle.definitions.specs.Answer.{written};
 ghost use Rattle.explore.specs.Images.{emptySets, unions, withImages, imagesOfSet, imagesMachine};
 ghost use Rattle.tables.specs.States.{numberAmong, withState};
-ghost use Rattle.explore.specs.Reaches.{Visited, Reaches};
+ghost use Rattle.explore.specs.Reaches.{Once, isNumber, Visited, Reaches};
+use automaton::wide;
 use situation::Situation;
 
-// The row gets empty sets only.
+// Every set of the row becomes empty.
 fn clear(next: &mut [u64])
     ensures { λ r. ⌜ now (next .exit) ≡ emptySets (length (now (next .entry))) ⌝ }
 {
@@ -21,7 +22,7 @@ fn clear(next: &mut [u64])
     }
 }
 
-// Each set of the row gets the valuations of the one that stands at its place in `more`. The loop has no branch, so that it is compiled to vector instructions.
+// Each set of the row gets the valuations of the one at its place in `more`. The loop has no branch, so that it is compiled to vector instructions.
 fn unite(next: &mut [u64], more: &[u64])
     requires { ⌜ length (now next) ≤ length (now more) ⌝ }
     ensures { λ r. ⌜ now (next .exit) ≡ unions (now (next .entry)) (now (more .entry)) ⌝ }
@@ -72,21 +73,53 @@ fn place(found: &[u64], n: usize, x: u64) -> usize
     0
 }
 
-// The number of a situation among the first `n` found, where a new one is put in after them; 0 for the empty set.
-fn note(found: &mut [u64], n: usize, x: Situation) -> usize
-    requires { ⌜ n < length (now found) ⌝ }
+// Whether `number` is that of a state, `x`, among the first `n` found.
+fn is_number(found: &[u64], n: usize, x: u64, number: usize) -> bool
+    requires { ⌜ n ≤ length (now found) ⌝ }
+    ensures { λ r. ⌜ r ≡ isNumber (now (found .entry)) n x number ⌝ }
+{
+    if number < 1 {
+        return false;
+    }
+    if n < number {
+        return false;
+    }
+    found[number - 1] == x
+}
+
+// The number of a state among the first `n` found, where a new one is put in after them.
+fn enter(found: &mut [u64], n: usize, x: u64) -> usize
+    requires { ⌜ (n < length (now found)) × (0 < x) ⌝ }
+    ensures { λ r. ⌜ r ≡ numberAmong (withState (take n (now (found .entry))) x) x ⌝ }
+    ensures { λ r. ⌜ now (found .exit) ≡ written (withState (take n (now (found .entry))) x) (now (found .entry)) ⌝ }
+{
+    let number = place(found, n, x);
+    if 0 < number {
+        return number;
+    }
+    found[n] = x;
+    n + 1
+}
+
+// The same for a situation; 0 for the empty set. `hints` has, at a place that the set decides, the number that was found there last. It may hold anything: a
+// hint is tried, and where it is wrong the search is made. Nothing is said of what it holds afterwards.
+fn note(found: &mut [u64], n: usize, x: Situation, hints: &mut [u8]) -> usize
+    requires { ⌜ (n < length (now found)) × (n ≤ 127) × (256 ≤ length (now hints)) × Once (take n (now found)) ⌝ }
     ensures { λ r. ⌜ r ≡ numberAmong (withState (take n (now (found .entry))) (x .set)) (x .set) ⌝ }
     ensures { λ r. ⌜ now (found .exit) ≡ written (withState (take n (now (found .entry))) (x .set)) (now (found .entry)) ⌝ }
 {
     if x.is_empty() {
         return 0;
     }
-    let number = place(found, n, x.set);
-    if 0 < number {
-        return number;
+    let set = x.set;
+    let at = (set % 251) as usize;
+    let hint = wide(hints[at]);
+    if is_number(found, n, set, hint) {
+        return hint;
     }
-    found[n] = x.set;
-    n + 1
+    let number = enter(found, n, set);
+    hints[at] = number as u8;
+    number
 }
 
 // The greater of two numbers.
@@ -100,7 +133,8 @@ fn greater(a: usize, b: usize) -> usize
 }
 
 // The codes are tried, in order, from a situation that was found: the row gets the numbers of the situations that they lead to, and new ones are put in
-// after the first `n`. Gives how many are found then. It stops at the 128th: then it gives 128, and neither list is whole. `next` is room to work in.
+// after the first `n`. Gives how many are found then. It stops at the 128th: then it gives 128, and neither list is whole. The last two slices are room to
+// work in; nothing is said of what they hold afterwards.
 fn visit(
     images: &[u64],
     valuations: usize,
@@ -110,9 +144,11 @@ fn visit(
     set: u64,
     row: &mut [u8],
     next: &mut [u64],
+    hints: &mut [u8],
 ) -> usize
     requires { ⌜ (valuations ≤ 64) × (valuations * w ≤ length (now images)) × (length (now next) ≡ w) ⌝ }
     requires { ⌜ (n ≤ 127) × (128 ≤ length (now found)) × (w ≤ length (now row)) × (0 < set) ⌝ }
+    requires { ⌜ (256 ≤ length (now hints)) × Once (take n (now found)) ⌝ }
     ensures { λ r. ⌜ Visited (imagesMachine (now (images .entry)) valuations w) set (take n (now (found .entry)))
         (now (found .entry)) (now (row .entry)) r (now (found .exit)) (now (row .exit)) ⌝ }
 {
@@ -120,7 +156,7 @@ fn visit(
     let mut k = n;
     let mut c = 0;
     while c < w {
-        let number = note(found, k, Situation { set: next[c] });
+        let number = note(found, k, Situation { set: next[c] }, hints);
         row[c] = number as u8;
         k = greater(k, number);
         if 127 < k {
@@ -132,7 +168,8 @@ fn visit(
 }
 
 // The situations that histories reach, in the order of their earliest history, with the rows of the table of their steps one after another in `raw`.
-// Gives how many there are; 0 if there are over 127, and then nothing is said of what `found` and `raw` hold. `next` is room to work in.
+// Gives how many there are; 0 if there are over 127, and then nothing is said of what `found` and `raw` hold. The last two slices are room to work in;
+// nothing is said of what they hold afterwards.
 fn explore_in(
     images: &[u64],
     valuations: usize,
@@ -140,9 +177,10 @@ fn explore_in(
     found: &mut [u64],
     raw: &mut [u8],
     next: &mut [u64],
+    hints: &mut [u8],
 ) -> usize
     requires { ⌜ (valuations ≤ 64) × (valuations * w ≤ length (now images)) × (length (now next) ≡ w) ⌝ }
-    requires { ⌜ (128 ≤ length (now found)) × (127 * w ≤ length (now raw)) ⌝ }
+    requires { ⌜ (128 ≤ length (now found)) × (127 * w ≤ length (now raw)) × (256 ≤ length (now hints)) ⌝ }
     ensures { λ r. ⌜ Reaches (imagesMachine (now (images .entry)) valuations w)
         (now (found .entry)) (now (raw .entry)) r (now (found .exit)) (now (raw .exit)) ⌝ }
 {
@@ -152,7 +190,17 @@ fn explore_in(
     while s < n {
         let set = found[s];
         let at = s * w;
-        n = visit(images, valuations, w, found, n, set, &mut raw[at..], next);
+        n = visit(
+            images,
+            valuations,
+            w,
+            found,
+            n,
+            set,
+            &mut raw[at..],
+            next,
+            hints,
+        );
         if 127 < n {
             return 0;
         }
@@ -161,7 +209,7 @@ fn explore_in(
     n
 }
 
-// The same, with an array for room.
+// The same, with arrays for room.
 pub fn explore(
     images: &[u64],
     valuations: usize,
@@ -175,5 +223,14 @@ pub fn explore(
         (now (found .entry)) (now (raw .entry)) r (now (found .exit)) (now (raw .exit)) ⌝ }
 {
     let mut next = [0u64; 136];
-    explore_in(images, valuations, w, found, raw, &mut next[..w])
+    let mut hints = [0u8; 256];
+    explore_in(
+        images,
+        valuations,
+        w,
+        found,
+        raw,
+        &mut next[..w],
+        &mut hints,
+    )
 }

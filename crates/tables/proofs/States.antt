@@ -65,7 +65,7 @@ module _ (l : List ℕ) where
       number-place (l ++ (s ∷ [])) s p ∙ place-end (eqb s) l s (sym (number-place l s p) ∙ e) (eq-eqb s s refl)
 
   -- what holds of the list as it is, where s is 0 or known, and with s at its end, where s is new, holds of the list with s put in
-  with-cases : (P : List ℕ → Type 0) (s : ℕ) → (s ≡ 0 → P l) → ((k : ℕ) → numberAmong l s ≡ suc k → P l)
+  pub with-cases : (P : List ℕ → Type 0) (s : ℕ) → (s ≡ 0 → P l) → ((k : ℕ) → numberAmong l s ≡ suc k → P l)
       → (isState s ≡ true → numberAmong l s ≡ 0 → P (l ++ (s ∷ []))) → P (withState l s)
   with-cases P zero none known new = rw with-none (none refl)
   with-cases P (suc s) none known new = go (numberAmong l (suc s)) refl

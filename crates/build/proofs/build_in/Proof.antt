@@ -1,5 +1,5 @@
 use Rattle.definitions.specs.Refusal.{situations}
-use Rattle.build.proofs.Building.{width-low, valuations-low, images-fit, rows-fit, book-fits, header-read, explored-over, explored-count, explored-rows, explored-table, situations-are, situations-table, refused-by-11, refused-by-none, build-refused, build-given}
+use Rattle.build.proofs.Building.{width-low, valuations-low, images-fit, book-fits, header-read, explored-over, explored-count, explored-rows, explored-table, situations-are, situations-table, refused-by-11, refused-by-none, build-refused, build-given}
 use Rattle.build.proofs.Policies.{ImagesOf}
 use Rattle.tables.specs.Rows.{rowsIn}
 use Rattle.explore.specs.Reaches.{Reaches}
@@ -29,7 +29,7 @@ reaches : (c : tie.After-explore)
 reaches c = rw (c .before .before .before .before .before .before .before .before .of .ensures) at (c .explore .ensures)
 
 fits : (c : tie.After-explore) → 127 * width (c .before .before .before .before .before .before .before .before .before .before .before .before .before .before .before .before .before .before .args .policy .now) ≤ length (c .before .before .before .before .before .before .before .before .before .before .before .before .before .before .before .before .before .before .args .raw .now)
-fits c = omega (arith, rows-fit (c .before .before .before .before .before .before .before .before .before .before .before .before .before .before .before .before .before .before .args .policy .now) (c .before .before .before .before .before .before .before .before .before .before .before .before .before .before .before .before .before .before .pre .0 .0), c .before .before .before .before .before .before .before .before .before .before .before .before .before .before .before .before .before .before .pre .1 .0)
+fits c = c .before .before .before .before .before .before .before .before .before .before .before .before .before .before .before .before .before .before .pre .1 .0 .2
 
 -- the book is written
 wide : (c : tie.After-of) → c .of .result .width ≡ width (c .before .before .before .before .before .before .before .before .before .before .args .policy .now)
@@ -65,7 +65,6 @@ explore-requires : tie.Need-explore-requires
 explore-requires c κs =
     let p = c .before .before .before .before .before .before .before .before .before .before .before .before .before .before .before .before .before in
     let fits = images-fit (p .args .policy .now) (p .pre .0 .0) in
-    let low = rows-fit (p .args .policy .now) (p .pre .0 .0) in
     rw (c .before .before .before .before .before .before .before .of .ensures)
     ((valuations-low (p .args .policy .now) (p .pre .0 .0), width-low (p .args .policy .now) (p .pre .0 .0), omega (arith, c .before .before .before .before .before .fill-images .kept .1 .1 .0, p .pre .1 .0)), (p .pre .1 .0 .1, omega (arith, p .pre .1 .0)))
 

@@ -15,15 +15,12 @@ use mathlib.Core.Path.{_≡_, refl, sym, _∙_}
 use borrow.Author.Needs.{needs}
 use Rattle.explore.proofs.explore_in.Statement.{statement}
 use Rattle.explore.proofs.explore_in.Tie as tie
-use Rattle.explore.proofs.explore_in.Reads as reads
-use Rattle.explore.proofs.explore_in.Lts as lts
-use Rattle.explore.proofs.visit.Reads as visit-reads
 
 abbrev Inv-loop : tie.InvT-loop
-Inv-loop images valuations w found₀ raw₀ next₀ n₀ s₀ found raw next n s = Reaching (imagesMachine images valuations w) (allReached (imagesMachine images valuations w)) found₀ raw₀ found raw n s × (length next ≡ w)
+Inv-loop images valuations w found₀ raw₀ next₀ hints₀ n₀ s₀ found raw next hints n s = Reaching (imagesMachine images valuations w) (allReached (imagesMachine images valuations w)) found₀ raw₀ found raw n s × (length next ≡ w) × (length hints ≡ length hints₀)
 
 abbrev μ-loop : tie.MeasureT-loop
-μ-loop images valuations w found₀ raw₀ next₀ n₀ s₀ found raw next n s = 128 - s
+μ-loop images valuations w found₀ raw₀ next₀ hints₀ n₀ s₀ found raw next hints n s = 128 - s
 
 -- HELPERS
 -- what is reached from a start that is a state
@@ -37,111 +34,100 @@ sound m = reached-sound m 127
 
 -- END
 
--- src/lib.rt:149:5
 slice-write-found : tie.Need-slice-write-found Inv-loop μ-loop
 slice-write-found c = search needs
 
--- src/lib.rt:152:5
 loop-holds : tie.Need-loop-holds Inv-loop μ-loop
 loop-holds c =
-    let p = c .before .before .before .before in
+    let p = c .before .before .before .before .before in
     let m = imagesMachine (p .args .images .now) (p .args .valuations) (p .args .w) in
-    (reaching-begun m (allReached m) (p .args .found .now) (p .args .raw .now) (p .pre .1 .0) (p .pre .1 .1) (all m) (sound m refl), p .pre .0 .2)
+    (reaching-begun m (allReached m) (p .args .found .now) (p .args .raw .now) (p .pre .1 .0) (p .pre .1 .1) (all m) refl (sound m refl), p .pre .0 .2, refl)
 
--- src/lib.rt:153:19
 mul-set : tie.Need-mul-set Inv-loop μ-loop
 mul-set c = search needs
 
--- src/lib.rt:153:19
 slice-read-set : tie.Need-slice-read-set Inv-loop μ-loop
 slice-read-set c = omega (arith, searched-room (c .before .before .loop .inv .0 .search), c .before .before .loop .inv .0 .room, c .before .before .loop .inv .0 .search .few)
 
--- src/lib.rt:154:18
 mul-at : tie.Need-mul-at Inv-loop μ-loop
 mul-at c =
     let h = reaching-row (c .before .before .loop .inv .0) (c .before .loop-test .taken) in
     let e = reaching-long (c .before .before .loop .inv .0) in
     omega arith
 
--- src/lib.rt:162:13
 sub-visit : tie.Need-sub-visit Inv-loop μ-loop
 sub-visit c =
     let h = reaching-row (c .before .before .before .loop .inv .0) (c .before .before .loop-test .taken) in
     omega arith
 
--- src/lib.rt:162:13
 part-visit-start : tie.Need-part-visit-start Inv-loop μ-loop
 part-visit-start c =
     let h = reaching-row (c .before .before .before .loop .inv .0) (c .before .before .loop-test .taken) in
     omega arith
 
--- src/lib.rt:162:13
 part-visit-end : tie.Need-part-visit-end Inv-loop μ-loop
 part-visit-end c = search needs
 
--- src/lib.rt:155:9
 visit-requires : tie.Need-visit-requires Inv-loop μ-loop
 visit-requires c κs =
-    let i = c .before .before .before .before .before .loop .inv in
-    let t = c .before .before .before .before .loop-test .taken in
-    let p = c .before .before .before .before .before .before .before .before .before .before .pre .0 in
+    let i = c .before .before .before .before .before .before .loop .inv in
+    let t = c .before .before .before .before .before .loop-test .taken in
+    let p = c .before .before .before .before .before .before .before .before .before .before .before .before .pre in
     let h = reaching-row (i .0) t in
     let r = searched-room (i .0 .search) in
     let f = i .0 .room in
-    ((p .0, p .1, i .1), (i .0 .search .few, omega arith, rw (part-is-drop, length-drop) (omega arith), searched-state (i .0 .search) t))
+    ((p .0 .0, p .0 .1, i .1), ((i .0 .search .few, omega arith, rw (part-is-drop, length-drop) (omega arith), searched-state (i .0 .search) t), (omega (arith, i .2, p .1 .2), i .0 .once)))
 
--- src/lib.rt:166:13
 same-length : tie.Need-same-length Inv-loop μ-loop
-same-length c = c .before .before .before .before .before .before .before .visit .kept .1 .1 .1 .0 ∙ searched-room (c .before .before .before .before .before .before .before .before .before .before .before .before .before .loop .inv .0 .search) ∙ simp length-set
+same-length c = c .before .before .before .before .before .before .before .before .before .visit .kept .1 .1 .1 .0 ∙ searched-room (c .before .before .before .before .before .before .before .before .before .before .before .before .before .before .before .before .loop .inv .0 .search) ∙ simp length-set
 
--- src/lib.rt:166:13
 same-length-2 : tie.Need-same-length-2 Inv-loop μ-loop
 same-length-2 c =
-    let l = c .before .before .before .before .before .before .before .before .before .before .before .before .before .loop in
-    let v = c .before .before .before .before .before .before .before .visit in
-    let a = l .s * c .before .before .before .before .before .before .before .before .before .before .before .before .before .before .before .before .before .before .args .w in
+    let l = c .before .before .before .before .before .before .before .before .before .before .before .before .before .before .before .before .loop in
+    let v = c .before .before .before .before .before .before .before .before .before .visit in
+    let a = l .s * c .before .before .before .before .before .before .before .before .before .before .before .before .before .before .before .before .before .before .before .before .before .before .args .w in
     same-len-mid a (length (l .raw) - a) (l .raw) (v .last .1 .1 .1 .1 .1 .1 .0) (v .kept .1 .1 .1 .1 .1 .1 .0) ∙ reaching-long (l .inv .0)
 
--- src/lib.rt:166:13
 same-length-3 : tie.Need-same-length-3 Inv-loop μ-loop
-same-length-3 c = c .before .before .before .before .before .before .before .visit .kept .1 .1 .1 .1 .1 .1 .1 .0 ∙ c .before .before .before .before .before .before .before .before .before .before .before .before .before .loop .inv .1 ∙ sym (c .before .before .before .before .before .before .before .before .before .before .before .before .before .before .before .before .before .before .pre .0 .2)
+same-length-3 c = c .before .before .before .before .before .before .before .before .before .visit .kept .1 .1 .1 .1 .1 .1 .1 .0 ∙ c .before .before .before .before .before .before .before .before .before .before .before .before .before .before .before .before .loop .inv .1 ∙ sym (c .before .before .before .before .before .before .before .before .before .before .before .before .before .before .before .before .before .before .before .before .before .before .pre .0 .2)
 
--- src/lib.rt:166:13
+same-length-4 : tie.Need-same-length-4 Inv-loop μ-loop
+same-length-4 c = c .before .before .before .before .before .before .before .before .before .visit .kept .1 .1 .1 .1 .1 .1 .1 .1 .0 ∙ c .before .before .before .before .before .before .before .before .before .before .before .before .before .before .before .before .loop .inv .2
+
 returns : tie.Need-returns Inv-loop μ-loop
 returns c =
-    let p = c .before .before .before .before .before .before .before .before .before .before .before .before .before .before .before .before .before .before in
+    let p = c .before .before .before .before .before .before .before .before .before .before .before .before .before .before .before .before .before .before .before .before .before .before in
     let m = imagesMachine (p .args .images .now) (p .args .valuations) (p .args .w) in
     reaches-from 1 (omega (arith, p .pre .1 .0)) (sound m refl .some)
-    (reaching-over (c .before .before .before .before .before .before .before .before .before .before .before .before .before .loop .inv .0) (c .before .before .before .before .before .before .before .before .before .before .before .before .loop-test .taken) (rw part-is-drop at (c .before .before .before .before .before .before .before .visit .ensures)) refl (c .if1 .taken))
+    (reaching-over (c .before .before .before .before .before .before .before .before .before .before .before .before .before .before .before .before .loop .inv .0) (c .before .before .before .before .before .before .before .before .before .before .before .before .before .before .before .loop-test .taken) (rw part-is-drop at (c .before .before .before .before .before .before .before .before .before .visit .ensures)) refl (c .if1 .taken))
 
--- src/lib.rt:168:9
 add-s : tie.Need-add-s Inv-loop μ-loop
 add-s c = search needs
 
--- src/lib.rt:152:5
 loop-less : tie.Need-loop-less Inv-loop μ-loop
 loop-less c = search needs
 
--- src/lib.rt:152:5
 loop-again : tie.Need-loop-again Inv-loop μ-loop
-loop-again c = (reaching-turn (c .before .before .before .before .before .before .before .before .before .before .before .before .before .loop .inv .0) (c .before .before .before .before .before .before .before .before .before .before .before .before .loop-test .taken) (rw part-is-drop at (c .before .before .before .before .before .before .before .visit .ensures)) (c .if1 .left), c .before .before .before .before .before .before .before .visit .kept .1 .1 .1 .1 .1 .1 .1 .0 ∙ c .before .before .before .before .before .before .before .before .before .before .before .before .before .loop .inv .1)
+loop-again c =
+    let l = c .before .before .before .before .before .before .before .before .before .before .before .before .before .before .before .before .loop in
+    let k = c .before .before .before .before .before .before .before .before .before .visit .kept in
+    (reaching-turn (l .inv .0) (c .before .before .before .before .before .before .before .before .before .before .before .before .before .before .before .loop-test .taken) (rw part-is-drop at (c .before .before .before .before .before .before .before .before .before .visit .ensures)) (c .if1 .left), k .1 .1 .1 .1 .1 .1 .1 .0 ∙ l .inv .1, k .1 .1 .1 .1 .1 .1 .1 .1 .0 ∙ l .inv .2)
 
--- src/lib.rt:136:1
-same-length-4 : tie.Need-same-length-4 Inv-loop μ-loop
-same-length-4 c = searched-room (c .before .loop .inv .0 .search) ∙ simp length-set
-
--- src/lib.rt:136:1
 same-length-5 : tie.Need-same-length-5 Inv-loop μ-loop
-same-length-5 c = reaching-long (c .before .loop .inv .0)
+same-length-5 c = searched-room (c .before .loop .inv .0 .search) ∙ simp length-set
 
--- src/lib.rt:136:1
 same-length-6 : tie.Need-same-length-6 Inv-loop μ-loop
-same-length-6 c = c .before .loop .inv .1 ∙ sym (c .before .before .before .before .before .before .pre .0 .2)
+same-length-6 c = reaching-long (c .before .loop .inv .0)
 
--- src/lib.rt:136:1
+same-length-7 : tie.Need-same-length-7 Inv-loop μ-loop
+same-length-7 c = c .before .loop .inv .1 ∙ sym (c .before .before .before .before .before .before .before .pre .0 .2)
+
+same-length-8 : tie.Need-same-length-8 Inv-loop μ-loop
+same-length-8 c = c .before .loop .inv .2
+
 returns-2 : tie.Need-returns-2 Inv-loop μ-loop
 returns-2 c =
-    let p = c .before .before .before .before .before .before in
+    let p = c .before .before .before .before .before .before .before in
     let m = imagesMachine (p .args .images .now) (p .args .valuations) (p .args .w) in
     reaches-from 1 (omega (arith, p .pre .1 .0)) (sound m refl .some) (reaching-done (c .before .loop .inv .0) refl (c .loop-test .left))
 
@@ -163,11 +149,13 @@ explore-in-spec =
     same-length
     same-length-2
     same-length-3
+    same-length-4
     returns
     add-s
     loop-less
     loop-again
-    same-length-4
     same-length-5
     same-length-6
+    same-length-7
+    same-length-8
     returns-2)

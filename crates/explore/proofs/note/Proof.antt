@@ -1,58 +1,69 @@
-use Rattle.explore.proofs.Noting.{note-none, note-known, note-new}
+use Rattle.explore.proofs.Noting.{note-none, note-hint, noted-low}
 use borrow.Author.Tests.{eqb-true, eqb-false}
 use native.Mathlib.Omega.{arith}
+use Prim.Native.Nat.{_<_}
 use mathlib.Core.Path.{sym, _∙_}
 use borrow.Author.Needs.{needs}
 use Rattle.explore.proofs.note.Statement.{statement}
 use Rattle.explore.proofs.note.Tie as tie
 
--- src/explore.rt:60:8
+-- HELPERS
+-- the set is not empty
+some : (c : tie.Else1) → 0 < c .before .before .before .before .args .x .set
+some c =
+    let x = c .before .before .before .before .args .x .set in
+    let none = eqb-false x 0 (sym (c .before .is-empty .ensures) ∙ c .if1 .left) in
+    omega arith
+
+-- END
+
 is-empty-requires : tie.Need-is-empty-requires
 is-empty-requires c κs = search needs
 
--- src/explore.rt:61:9
 returns : tie.Need-returns
 returns c =
-    let a = c .before .before .before .args in
-    note-none (a .found .now) (a .n) (a .x .set) (c .before .before .before .pre) (eqb-true (a .x .set) 0 (sym (c .before .is-empty .ensures) ∙ c .if1 .taken))
+    let p = c .before .before .before .before in
+    let a = p .args in
+    note-none (a .found .now) (a .n) (a .x .set) (p .pre .0) (eqb-true (a .x .set) 0 (sym (c .before .is-empty .ensures) ∙ c .if1 .taken))
 
--- src/explore.rt:63:9
-place-requires : tie.Need-place-requires
-place-requires c κs = search needs
+slice-read-wide : tie.Need-slice-read-wide
+slice-read-wide c = search needs
 
--- src/explore.rt:65:9
+wide-requires : tie.Need-wide-requires
+wide-requires c κs = search needs
+
+is-number-requires : tie.Need-is-number-requires
+is-number-requires c κs = search needs
+
 same-length : tie.Need-same-length
 same-length c = search needs
 
--- src/explore.rt:65:9
 returns-2 : tie.Need-returns-2
 returns-2 c =
-    let p = c .before .before .before .before .before .before in
+    let p = c .before .before .before .before .before .before .before .before .before in
     let a = p .args in
-    note-known (a .found .now) (a .n) (a .x .set) (p .pre) (eqb-false (a .x .set) 0 (sym (c .before .before .before .before .is-empty .ensures) ∙ c .before .before .before .if1 .left)) (c .before .place .result) (c .before .place .ensures) (c .if2 .taken)
+    note-hint (a .found .now) (a .n) (a .x .set) (p .pre .0) (p .pre .3) (c .before .before .before .wide .result) (sym (c .before .is-number .ensures) ∙ c .if2 .taken)
 
--- src/explore.rt:67:5
-mul-found : tie.Need-mul-found
-mul-found c = search needs
+enter-requires : tie.Need-enter-requires
+enter-requires c κs = (c .before .before .before .before .before .before .before .before .before .before .pre .0, some (c .before .before .before .before .before .before))
 
--- src/explore.rt:67:5
-slice-write-found : tie.Need-slice-write-found
-slice-write-found c = search needs
+cast-hints : tie.Need-cast-hints
+cast-hints c =
+    let p = c .before .before .before .before .before .before .before .before .before .before .before .before .before in
+    let h = noted-low (p .args .found .now) (p .args .n) (p .args .x .set) (p .pre .0) (c .before .before .enter .result) (c .before .before .enter .ensures .0) in
+    omega (arith, p .pre .1)
 
--- src/explore.rt:68:5
-add-result : tie.Need-add-result
-add-result c = search needs
+slice-write-hints : tie.Need-slice-write-hints
+slice-write-hints c = search needs
 
--- src/explore.rt:55:1
 same-length-2 : tie.Need-same-length-2
 same-length-2 c = search needs
 
--- src/explore.rt:55:1
+same-length-3 : tie.Need-same-length-3
+same-length-3 c = search needs
+
 returns-3 : tie.Need-returns-3
-returns-3 c =
-    let p = c .before .before .before .before .before .before in
-    let a = p .args in
-    note-new (a .found .now) (a .n) (a .x .set) (p .pre) (eqb-false (a .x .set) 0 (sym (c .before .before .before .before .is-empty .ensures) ∙ c .before .before .before .if1 .left)) (omega (arith, c .before .place .ensures, c .if2 .left))
+returns-3 c = search needs
 
 pub note-spec : {M : Type 1} → statement M
 note-spec =
@@ -60,11 +71,14 @@ note-spec =
     (tie.spec
     is-empty-requires
     returns
-    place-requires
+    slice-read-wide
+    wide-requires
+    is-number-requires
     same-length
     returns-2
-    mul-found
-    slice-write-found
-    add-result
+    enter-requires
+    cast-hints
+    slice-write-hints
     same-length-2
+    same-length-3
     returns-3)

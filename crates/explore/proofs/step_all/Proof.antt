@@ -6,14 +6,10 @@ use lib.ListN.{length}
 use native.Mathlib.Omega.{arith}
 use Prim.Native.Nat.{ℕ, _≤_, _-_}
 use mathlib.Core.List.{List}
-use mathlib.Core.Path.{_≡_, refl, sym, ap, _∙_}
+use mathlib.Core.Path.{_≡_, sym, ap, _∙_}
 use borrow.Author.Needs.{needs}
 use Rattle.explore.proofs.step_all.Statement.{statement}
 use Rattle.explore.proofs.step_all.Tie as tie
-use Rattle.explore.proofs.step_all.Reads as reads
-use Rattle.explore.proofs.step_all.Lts as lts
-use Rattle.explore.proofs.add_images.Reads as add-images-reads
-use Rattle.explore.proofs.clear.Reads as clear-reads
 
 abbrev Inv-loop : tie.InvT-loop
 Inv-loop images valuations w situation next₀ v₀ next v = (v ≤ valuations) × (next ≡ imagesOfSet images v w (situation .set))
@@ -30,43 +26,35 @@ long c =
 
 -- END
 
--- src/lib.rt:52:5
 clear-requires : tie.Need-clear-requires Inv-loop μ-loop
 clear-requires c κs = search needs
 
--- src/lib.rt:54:5
 loop-holds : tie.Need-loop-holds Inv-loop μ-loop
 loop-holds c =
     let p = c .before .before .before .before .before .before in
     (omega arith, c .before .before .clear .ensures ∙ ap emptySets (p .pre .2))
 
--- src/lib.rt:55:9
 add-images-requires : tie.Need-add-images-requires Inv-loop μ-loop
 add-images-requires c κs =
     let p = c .before .before .before .before .before .before .before .before .before in
     let l = c .before .before .loop in
     (omega arith, omega (arith, row-within (l .v) (p .args .valuations) (p .args .w) (c .before .loop-test .taken)), long (c .before .before))
 
--- src/lib.rt:56:9
 add-v : tie.Need-add-v Inv-loop μ-loop
 add-v c = search needs
 
--- src/lib.rt:54:5
 loop-less : tie.Need-loop-less Inv-loop μ-loop
 loop-less c = search needs
 
--- src/lib.rt:54:5
 loop-again : tie.Need-loop-again Inv-loop μ-loop
 loop-again c =
     let l = c .before .before .before .before .before .loop in
     let a = c .before .before .before .before .before .before .before .before .before .before .before .before .args in
     (omega arith, c .before .before .add-images .ensures ∙ ap (λ (sets : List ℕ). withImages (a .images .now) (a .w) (a .situation .set) (l .v) sets) (l .inv .1) ∙ images-more (a .images .now) (a .w) (a .situation .set) (l .v))
 
--- src/lib.rt:48:1
 same-length : tie.Need-same-length Inv-loop μ-loop
 same-length c = long (c .before) ∙ sym (c .before .before .before .before .before .before .before .before .pre .2)
 
--- src/lib.rt:48:1
 returns : tie.Need-returns Inv-loop μ-loop
 returns c =
     let a = c .before .before .before .before .before .before .before .before .args in

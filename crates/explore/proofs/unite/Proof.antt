@@ -8,8 +8,6 @@ use mathlib.Core.Path.{ap}
 use borrow.Author.Needs.{needs}
 use Rattle.explore.proofs.unite.Statement.{statement}
 use Rattle.explore.proofs.unite.Tie as tie
-use Rattle.explore.proofs.unite.Reads as reads
-use Rattle.explore.proofs.unite.Lts as lts
 
 abbrev Inv-loop : tie.InvT-loop
 Inv-loop next₀ more c₀ next c = Filling (unionAt next₀ more) next₀ next c
@@ -17,54 +15,42 @@ Inv-loop next₀ more c₀ next c = Filling (unionAt next₀ more) next₀ next 
 abbrev μ-loop : tie.MeasureT-loop
 μ-loop next₀ more c₀ next c = length next - c
 
--- src/lib.rt:30:5
 loop-holds : tie.Need-loop-holds Inv-loop μ-loop
 loop-holds c = filling-begun _ _
 
--- src/lib.rt:31:19
 mul-next : tie.Need-mul-next Inv-loop μ-loop
 mul-next c = search needs
 
--- src/lib.rt:31:19
 slice-read-next : tie.Need-slice-read-next Inv-loop μ-loop
 slice-read-next c = search needs
 
--- src/lib.rt:31:29
 mul-next-2 : tie.Need-mul-next-2 Inv-loop μ-loop
 mul-next-2 c = search needs
 
--- src/lib.rt:31:29
 shared-slice-read-next : tie.Need-shared-slice-read-next Inv-loop μ-loop
 shared-slice-read-next c = omega (arith, filling-length (c .before .before .before .loop .inv))
 
--- src/lib.rt:31:9
 mul-next-3 : tie.Need-mul-next-3 Inv-loop μ-loop
 mul-next-3 c = search needs
 
--- src/lib.rt:31:9
 slice-write-next : tie.Need-slice-write-next Inv-loop μ-loop
 slice-write-next c = search needs
 
--- src/lib.rt:32:9
 add-c : tie.Need-add-c Inv-loop μ-loop
 add-c c = search needs
 
--- src/lib.rt:30:5
 loop-less : tie.Need-loop-less Inv-loop μ-loop
 loop-less c = simp length-set (omega arith)
 
--- src/lib.rt:30:5
 loop-again : tie.Need-loop-again Inv-loop μ-loop
 loop-again c =
     let l = c .before .before .before .loop in
     let more = c .before .before .before .before .args .more .now in
     filling-turn (l .inv) (c .before .before .loop-test .taken) (ap (λ (old : ℕ). bitOr old (getD more (l .c) 0)) (filling-next (l .inv)))
 
--- src/lib.rt:25:1
 same-length : tie.Need-same-length Inv-loop μ-loop
 same-length c = filling-length (c .before .loop .inv)
 
--- src/lib.rt:25:1
 returns : tie.Need-returns Inv-loop μ-loop
 returns c = filling-done (c .before .loop .inv) (c .loop-test .left)
 
