@@ -4,6 +4,7 @@
 mod book_damage;
 mod books;
 mod extremes;
+mod plays;
 mod policies;
 mod policy_damage;
 mod random;
@@ -13,13 +14,14 @@ mod variation;
 pub use book_damage::{damaged_book, faulty_pair};
 pub use books::{book, book_pair};
 pub use extremes::{far_pair, late_finding_book, longest_pair};
+pub use plays::play;
 pub use policies::policy;
 pub use policy_damage::damaged_policy;
 pub use random::Random;
 pub use variation::policy_pair;
 
 /// The names of the kinds that `one` knows.
-pub const KINDS: [&str; 13] = [
+pub const KINDS: [&str; 14] = [
     "policy",
     "policy-pair-first",
     "policy-pair-second",
@@ -33,6 +35,7 @@ pub const KINDS: [&str; 13] = [
     "longest-pair-second",
     "faulty-pair-first",
     "faulty-pair-second",
+    "play",
 ];
 
 /// The input of a kind named in `KINDS` for a seed, nothing for another name.
@@ -51,6 +54,7 @@ pub fn one(kind: &str, seed: u64) -> Option<Vec<u8>> {
         "longest-pair-second" => longest_pair(seed).1,
         "faulty-pair-first" => faulty_pair(seed).0,
         "faulty-pair-second" => faulty_pair(seed).1,
+        "play" => play(seed),
         _ => return None,
     })
 }

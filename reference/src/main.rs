@@ -9,11 +9,12 @@ use reference::compare::{self, Comparison};
 use reference::findings::findings;
 use reference::refusal::Refusal;
 use reference::words::Names;
-use reference::{dot, generate, hex, host, programs, shelf};
+use reference::{dot, generate, hex, host, play, programs, shelf};
 
 const HELP: &str = "\
 reference book FILE                  print the book of a policy in hexadecimal
 reference shelf FILE                 print what the program shelf prints for a policy
+reference play FILE                  print what the program play prints for a book and steps
 reference compare FILE FILE          compare two books
 reference verdict FILE               print the findings about a book
 reference build FILE OUT             write the book of a policy into the file OUT
@@ -50,6 +51,7 @@ fn run(arguments: &[&str]) -> Result<String, String> {
             hex::book_lines(&book)
         })),
         ["shelf", file] => print_shelf(&read(file)?),
+        ["play", file] => Ok(play::play(&read(file)?)),
         ["compare", "-", "-"] => Err("only one of the two books can be standard input".into()),
         ["compare", first, second] => Ok(answer(
             compare::compare(&read(first)?, &read(second)?),

@@ -1,7 +1,7 @@
-//! What the programs `shelf` and `cases` are run on, and what they must write.
+//! What the programs `shelf`, `cases` and `play` are run on, and what they must write.
 //! The files `stdin` and `stdout` beside each program are made here.
 
-use crate::{book, generate, hex, shelf};
+use crate::{book, generate, hex, play, shelf};
 
 /// A run of a program.
 pub struct Run {
@@ -13,6 +13,7 @@ pub struct Run {
 /// One run of each program.
 pub fn runs() -> Vec<Run> {
     let policies = policies();
+    let steps = play::input(&book::build(E).expect("a book").to_bytes(), &STEPS);
     vec![
         Run {
             program: "shelf",
@@ -23,6 +24,11 @@ pub fn runs() -> Vec<Run> {
             program: "cases",
             stdin: policies.iter().flat_map(|policy| record(policy)).collect(),
             stdout: policies.iter().map(|policy| case_line(policy)).collect(),
+        },
+        Run {
+            program: "play",
+            stdout: play::play(&steps),
+            stdin: steps,
         },
     ]
 }
@@ -70,6 +76,9 @@ fn bytes(text: &str) -> Vec<u8> {
 }
 
 const E: &[u8] = include_bytes!("../../samples/e.policy");
+
+/// Steps on the book of case E, of which the third and the last are refused.
+const STEPS: [u8; 6] = [3, 3, 3, 2, 0, 255];
 
 /// Cases A to S.
 const TABLE: [&[u8]; 10] = [

@@ -226,7 +226,7 @@ fn generated_books_pass_the_checks() {
 }
 
 /// For each kind of input, a sum over the bytes for the first 40 seeds.
-const SUMS: [(&str, u64); 13] = [
+const SUMS: [(&str, u64); 14] = [
     ("policy", 0xDA23_5E0E_3629_2C1D),
     ("policy-pair-first", 0x3480_96C1_D3A2_B227),
     ("policy-pair-second", 0xCE55_9955_F26C_296D),
@@ -240,6 +240,7 @@ const SUMS: [(&str, u64); 13] = [
     ("longest-pair-second", 0xEA68_8767_5B43_A397),
     ("faulty-pair-first", 0x9047_7D5D_CE04_3905),
     ("faulty-pair-second", 0xDD60_13CD_9187_4690),
+    ("play", 0x90D5_AC63_5632_89B0),
 ];
 
 /// The bytes that the generators give for a seed are the same forever.

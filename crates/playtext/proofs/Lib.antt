@@ -1,0 +1,7 @@
+-- Laws that belong to no one function.
+pub mod Answers
+pub mod Histories
+pub mod Inputs
+pub mod Lending
+pub mod Turns
+pub mod Writing

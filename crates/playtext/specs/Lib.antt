@@ -1,0 +1,3 @@
+-- The definitions that the contracts of `playtext` cite.
+pub mod Lines
+pub mod Play
