@@ -14,7 +14,7 @@ use borrow.Author.Tests.{eqb-true, eq-eqb, ltb-true, ltb-false}
 use Rattle.automaton.specs.History.{History}
 use Rattle.automaton.specs.Machine.{Machine, step, after, isState}
 use Rattle.automaton.specs.Explore.{Reached, isAt, numberIn, add, visit, unreached, explore, startOf, reached}
-use Rattle.automaton.proofs.Machines.{after-append, possible-codes}
+use Rattle.automaton.proofs.Machines.{after-append}
 use Rattle.automaton.proofs.Counting.{below-suc, place-hit, place-append, place-end, distinct-below}
 
 abbrev pub stateAt : List Reached → ℕ → ℕ
@@ -250,10 +250,6 @@ module _ (m : Machine) (most : ℕ) (begins : isState (m .start) ≡ true) where
   -- and has at most as many codes as there are states before, each below the width
   pub reached-short : (k : ℕ) → k < length (reached m most) → length (historyAt (reached m most) k) ≤ k
   reached-short = sound-length m (reached m most) reached-sound
-
-  pub reached-codes : (k : ℕ) → k < length (reached m most)
-      → (i : ℕ) → i < length (historyAt (reached m most) k) → getD (historyAt (reached m most) k) i 0 < m .width
-  reached-codes k l = possible-codes m (m .start) (historyAt (reached m most) k) (ap isState (reached-leads k l) ∙ reached-sound .states k l)
 
   -- where no step leads above n, at most n states are found
   pub reached-few : (n : ℕ) → ((s c : ℕ) → step m s c ≤ n) → m .start ≤ n → length (reached m most) ≤ n

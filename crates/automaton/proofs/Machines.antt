@@ -65,12 +65,6 @@ alike-trans A x B y C z a b h = a h ∙ b h
 pub alike-step : (A : Machine) (x : ℕ) (B : Machine) (y : ℕ) → Alike A x B y → (c : ℕ) → Alike A (step A x c) B (step B y c)
 alike-step A x B y a c h = a (c ∷ h)
 
-pub alike-after : (A : Machine) (x : ℕ) (B : Machine) (y : ℕ) → Alike A x B y → (k : History) → Alike A (after A x k) B (after B y k)
-alike-after A x B y a k h = ap isState (sym (after-append A x k h)) ∙ a (k ++ h) ∙ ap isState (after-append B y k h)
-
-pub alike-state : (A : Machine) (x : ℕ) (B : Machine) (y : ℕ) → Alike A x B y → isState x ≡ isState y
-alike-state A x B y a = a []
-
 pub zeros-alike : (A B : Machine) → Alike A 0 B 0
 zeros-alike A B h = ap isState (after-zero A h ∙ sym (after-zero B h))
 
@@ -110,12 +104,6 @@ ToldApart A x B y h = T (inOne (possibleFrom A x h) (possibleFrom B y h))
 pub told-apart-cotrans : (A : Machine) (x : ℕ) (B : Machine) (y : ℕ) (C : Machine) (z : ℕ) (h : History)
     → ToldApart A x C z h → ToldApart A x B y h ⊎ ToldApart B y C z h
 told-apart-cotrans A x B y C z h = in-one-cotrans (possibleFrom A x h) (possibleFrom B y h) (possibleFrom C z h)
-
-pub told-apart-sym : (A : Machine) (x : ℕ) (B : Machine) (y : ℕ) (h : History) → ToldApart A x B y h → ToldApart B y A x h
-told-apart-sym A x B y h = in-one-sym (possibleFrom A x h) (possibleFrom B y h)
-
-pub told-apart-self : (A : Machine) (x : ℕ) (h : History) → ToldApart A x A x h → ⊥
-told-apart-self A x h = in-one-self (possibleFrom A x h)
 
 pub told-apart-dec : (A : Machine) (x : ℕ) (B : Machine) (y : ℕ) (h : History) → Dec (ToldApart A x B y h)
 told-apart-dec A x B y h = in-one-dec (possibleFrom A x h) (possibleFrom B y h)

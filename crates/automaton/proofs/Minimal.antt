@@ -1,6 +1,6 @@
 -- The smallest table with the histories of a table: it is tidy, so tables with the same histories have the same smallest table, and none of them has
 -- fewer rows. It ends in the rows built for a machine: machines of one width have the same rows exactly if they have the same histories.
-use mathlib.Core.Path.{_≡_, refl, sym, ap, _∙_, subst}
+use mathlib.Core.Path.{_≡_, refl, sym, _∙_, subst}
 use mathlib.Core.Bool.{true}
 use mathlib.Core.List.{List}
 use Prim.Native.Nat.{ℕ, _≤_}
@@ -28,9 +28,6 @@ module _ (w : ℕ) (m n : Machine) (A B : List (List ℕ)) (a : TidyTableOf w m 
   pub tidy-table-unique : ((h : History) → possible m h ≡ possible n h) → A ≡ B
   tidy-table-unique same =
       tidy-rows-unique w A B (a .isTable) (b .isTable) (a .tidy) (b .tidy) (λ h. a .histories h ∙ same h ∙ sym (b .histories h))
-
-  pub tidy-table-same : A ≡ B → (h : History) → possible m h ≡ possible n h
-  tidy-table-same e h = sym (a .histories h) ∙ ap (λ (rows : List (List ℕ)). possible (tabled w rows) h) e ∙ b .histories h
 
 module _ (w : ℕ) (rows : List (List ℕ)) (ok : IsTable w rows) where
   abbrev J : Machine
@@ -74,9 +71,6 @@ module _ (w : ℕ) (A B : List (List ℕ)) (okA : IsTable w A) (okB : IsTable w 
   pub minimal-unique : SameHistories w A B → minimal w A ≡ minimal w B
   minimal-unique = tidy-table-unique w (tabled w A) (tabled w B) (minimal w A) (minimal w B) (minimal-tidy-table w A okA) (minimal-tidy-table w B okB)
 
-  pub minimal-same : minimal w A ≡ minimal w B → SameHistories w A B
-  minimal-same = tidy-table-same w (tabled w A) (tabled w B) (minimal w A) (minimal w B) (minimal-tidy-table w A okA) (minimal-tidy-table w B okB)
-
   -- no table with the histories of A has fewer rows
   pub fewest : SameHistories w A B → length (minimal w A) ≤ length B
   fewest same = rw (minimal-unique same) (minimal-length w B okB)
@@ -105,6 +99,3 @@ module _ (m n : Machine) (widths : m .width ≡ n .width) (most : ℕ) (begins-m
   -- machines of one width have the same rows exactly if they have the same histories
   pub built-unique : ((h : History) → possible m h ≡ possible n h) → rowsFor m most ≡ rowsFor n most
   built-unique = tidy-table-unique (m .width) m n (rowsFor m most) (rowsFor n most) (built m most begins-m enough-m) built-n
-
-  pub built-same : rowsFor m most ≡ rowsFor n most → (h : History) → possible m h ≡ possible n h
-  built-same = tidy-table-same (m .width) m n (rowsFor m most) (rowsFor n most) (built m most begins-m enough-m) built-n

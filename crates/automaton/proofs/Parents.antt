@@ -2,11 +2,10 @@
 -- its own code. A place that is stored at the end leaves the histories of the others as they are.
 use mathlib.Core.Path.{_≡_, refl, ap, sym, _∙_}
 use mathlib.Core.Logic.{_⊎_, inl, inr}
-use mathlib.Core.List.{List, [], _∷_, _++_}
+use mathlib.Core.List.{[], _∷_, _++_}
 use Prim.Native.Nat.{ℕ, zero, suc, _≤_, _<_}
 use native.Mathlib.Omega.{arith}
-use lib.ListN.{length, getD, set, length-append}
-use lib.Seq.{getD-set-same, getD-set-other}
+use lib.ListN.{length, length-append}
 use Rattle.automaton.specs.History.{History}
 use Rattle.automaton.proofs.Counting.{below-suc}
 
@@ -27,9 +26,6 @@ Falls m parent = (k : ℕ) → suc k < m → parent (suc k) ≤ k
 pub record Stored (m x : ℕ) (old new : ℕ → ℕ) : Type 0 where
   pub same : (k : ℕ) → k < m → new k ≡ old k
   pub last : new m ≡ x
-
-pub stored-set : (l : List ℕ) (m x : ℕ) → m < length l → Stored m x (λ k. getD l k 0) (λ k. getD (set l m x) k 0)
-stored-set l m x h = record { same = λ k b. getD-set-other l m k x 0 (omega arith); last = getD-set-same l m x 0 h }
 
 -- with parents and codes that agree below m the histories agree, whatever the fuel, if it is enough
 module _ (m : ℕ) (parent code parent′ code′ : ℕ → ℕ) (falls : Falls m parent) (same-parent : (k : ℕ) → k < m → parent′ k ≡ parent k)

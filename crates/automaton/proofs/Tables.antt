@@ -138,14 +138,6 @@ module _ (m : Machine) (most : ℕ) (begins : isState (m .start) ≡ true) (enou
   number-alike : (n : ℕ) → n ≤ length found → Alike M n m (stateOf found n)
   number-alike n l h = sym (state-is (after M n h) (after-low n l h)) ∙ ap isState (state-after n l h)
 
-  -- a state found and its number are alike
-  pub table-alike : (s : ℕ) → isState (numberIn found s) ≡ true → Alike M (numberIn found s) m s
-  table-alike s p = go (numberIn found s) refl p
-    where
-      go : (n : ℕ) → numberIn found s ≡ n → isState n ≡ true → Alike M n m s
-      go zero e p = absurd (false≢true p)
-      go (suc k) e p = let hit = number-hit found s k e in subst (Alike M (suc k) m) (sym (hit .1)) (number-alike (suc k) (hit .0))
-
   start-is : stateOf found 1 ≡ m .start
   start-is = ap (λ (t : Reached). t .state) (sound .first)
 

@@ -1,6 +1,6 @@
 -- Well-formed tables: at least one row, every row as long as the table is wide, every entry 0 or the number of a row. The steps of such a table's
 -- machine are its entries, and they stay among its rows.
-use mathlib.Core.Path.{_≡_, refl, sym, ap, _∙_}
+use mathlib.Core.Path.{_≡_, refl, sym, ap}
 use mathlib.Core.Bool.{Bool, cond, true, false}
 use mathlib.Core.List.{List, [], _∷_, map}
 use Prim.Native.Nat.{ℕ, zero, suc, _≤_, _<_}
@@ -58,7 +58,3 @@ module _ (w : ℕ) (rows : List (List ℕ)) (ok : IsTable w rows) where
   pub after-inside : (s : ℕ) (h : History) → s ≤ length rows → after (tabled w rows) s h ≤ length rows
   after-inside s [] l = l
   after-inside s (c ∷ h) l = after-inside (step (tabled w rows) s c) h (step-inside s c)
-
-  -- nothing follows a number past the rows
-  pub step-beyond : (s c : ℕ) → length rows < s → step (tabled w rows) s c ≡ 0
-  step-beyond s c l = step-entry s c ∙ entry-beyond rows s c l

@@ -174,9 +174,6 @@ module _ (p : List ℕ) where
     pub rule-within : (k : ℕ) → k < rules p → 9 + fields p + k * ruleSize p + ruleSize p ≤ length p
     rule-within k l = omega (arith, mul-le-mul-right (ruleSize p) l, suc-mul k (ruleSize p))
 
-    pub event-within : (e : ℕ) → e < events p → 9 + fields p + rules p * ruleSize p + e * variables p + variables p ≤ length p
-    event-within e l = omega (arith, mul-le-mul-right (variables p) l, suc-mul e (variables p))
-
 -- ---- books
 module _ (b : List ℕ) where
   -- ---- the layout

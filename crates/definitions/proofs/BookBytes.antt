@@ -67,12 +67,6 @@ module _ (frame : List ℕ) (rows : List (List ℕ)) (six : length frame ≡ 6) 
   pub frame-of-bytes : B.frame (bookBytes frame rows) ≡ frame
   frame-of-bytes = take-at frame (length rows ∷ concat rows) 6 six
 
-  -- E, F and the value counts
-  pub byte-of-frame : (i : ℕ) → i < 6 → byte (bookBytes frame rows) (5 + i) ≡ byte frame i
-  byte-of-frame i l =
-      getD-append-add (0x42 ∷ 0x4F ∷ 0x4B ∷ 0 ∷ 1 ∷ []) (frame ++ (length rows ∷ concat rows)) i 0
-      ∙ List·getD-append frame (length rows ∷ concat rows) 0 i (omega arith)
-
   -- the bytes of the rows
   rows-of-bytes : drop 12 (bookBytes frame rows) ≡ concat rows
   rows-of-bytes =

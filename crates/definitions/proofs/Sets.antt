@@ -89,9 +89,6 @@ start-has u = (λ h. eqb-true u startValuation (sym (bit-start u) ∙ h), λ e. 
 pub union-below : (n a b : ℕ) → a < 2 ^ n → b < 2 ^ n → union a b < 2 ^ n
 union-below n a b la lb = or-lt n a b la lb
 
-pub insert-below : (n v set : ℕ) → v < n → set < 2 ^ n → insert v set < 2 ^ n
-insert-below n v set lv ls = or-lt n set (2 ^ v) ls (pow-lt lv)
-
 -- a bit is a digit of two values
 abbrev two : ℕ → ℕ
 two u = 2

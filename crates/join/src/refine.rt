@@ -1,7 +1,7 @@
 // Alike states joined by rounds of refinement (Moore's algorithm). An array has class 0 of "not possible" first, then the class of each state; a class has
 // the number of its first state.
 ghost use mathlib.Core.Path.{_≡_};
-ghost use Prim.Native.Nat.{_+_, _-_, _*_, _<_, _≤_};
+ghost use Prim.Native.Nat.{_-_, _*_, _<_, _≤_};
 ghost use lib.ListN.{length, take};
 ghost use Rattle.automaton.specs.Below.{sameList};
 ghost use Rattle.definitions.specs.Bytes.{byte};

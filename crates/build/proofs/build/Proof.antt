@@ -1,6 +1,5 @@
 use Rattle.build.proofs.Building.{refused-by-1, refused-by-file, build-refused}
 use native.Mathlib.Omega.{arith}
-use Prim.Native.Nat.{_-_}
 use mathlib.Core.Path.{sym, _∙_}
 use borrow.Author.Needs.{needs}
 use Rattle.build.proofs.build.Statement.{statement}

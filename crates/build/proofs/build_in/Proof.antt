@@ -11,7 +11,7 @@ use Rattle.definitions.specs.Answer.{written}
 use Rattle.automaton.specs.Join.{minimal}
 use lib.ListN.{length}
 use native.Mathlib.Omega.{arith}
-use Prim.Native.Nat.{ℕ, _-_, _*_, _≤_}
+use Prim.Native.Nat.{ℕ, _*_, _≤_}
 use mathlib.Core.Path.{_≡_, refl, ap, _∙_}
 use borrow.Author.Needs.{needs}
 use Rattle.build.proofs.build_in.Statement.{statement}

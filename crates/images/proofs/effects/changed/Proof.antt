@@ -1,4 +1,4 @@
--- `policy::effects::changed` meets its contract.
+-- `images::effects::changed` meets its contract.
 use native.Mathlib.Omega.{arith}
 use native.Mathlib.Numerals.{add-one}
 use borrow.Author.Tests.{lt-ltb, le-ltb}

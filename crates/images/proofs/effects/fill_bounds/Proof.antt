@@ -1,4 +1,4 @@
--- `policy::effects::fill_bounds` meets its contract. The loop's invariant: the first j entries are filled.
+-- `images::effects::fill_bounds` meets its contract. The loop's invariant: the first j entries are filled.
 use mathlib.Core.Path.{_≡_}
 use Prim.Native.Nat.{_≤_, _-_}
 use native.Mathlib.Omega.{arith}

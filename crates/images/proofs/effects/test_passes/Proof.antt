@@ -1,4 +1,4 @@
--- `policy::effects::test_passes` meets its contract.
+-- `images::effects::test_passes` meets its contract.
 use mathlib.Core.Path.{sym, _∙_}
 use native.Mathlib.Omega.{arith}
 use borrow.Author.Tests.{le-leb, lt-leb}

@@ -1,4 +1,4 @@
--- `policy::matching::stride` meets its contract. The loop's invariant: the product is that of the first i of the later counts, and is not 0.
+-- `images::matching::stride` meets its contract. The loop's invariant: the product is that of the first i of the later counts, and is not 0.
 use mathlib.Core.Path.{_≡_, ap, _∙_}
 use Prim.Native.Nat.{suc, _≤_, _-_, _+_}
 use native.Mathlib.Nat.{one-le-mul}
