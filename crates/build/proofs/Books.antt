@@ -17,12 +17,12 @@ use Rattle.automaton.proofs.Tables.{table-length}
 use Rattle.definitions.specs.Bytes.{byte}
 use Rattle.tables.specs.States.{states}
 use Rattle.write.specs.Rows.{numberedRow, numberedRows, StatesBelow}
-use Rattle.join.specs.Classes.{rowsWith}
-use Rattle.join.specs.Numbers.{Joined, joinedIn, classesReached, stateNumbers}
+use Rattle.tables.specs.Classes.{rowsWith}
+use Rattle.number.specs.Numbers.{Joined, joinedIn, classesReached, stateNumbers}
 use Rattle.tables.proofs.States.{length-states, state-at}
 use Rattle.tables.proofs.TableBytes.{row-of-table, state-row, state-entry}
-use Rattle.join.proofs.Classing.{count, joined-step, classes-sound}
-use Rattle.join.proofs.Ordering.{state-low}
+use Rattle.number.proofs.Classing.{count, joined-step, classes-sound}
+use Rattle.number.proofs.Ordering.{state-low}
 use Rattle.write.proofs.Writing.{looked-length}
 
 module _ {raw : List ℕ} {w : ℕ} {array : List ℕ} (ok : Joined raw w array) where

@@ -10,11 +10,11 @@ use Rattle.automaton.specs.Join.{classes, minimal}
 use Rattle.tables.specs.States.{states}
 use Rattle.tables.specs.Rows.{rowsIn, TableIn}
 use Rattle.write.specs.Rows.{numberedRows, StatesBelow}
-use Rattle.join.specs.Classes.{lastRound}
-use Rattle.join.specs.Numbers.{Joined, classesReached, Numbered}
+use Rattle.tables.specs.Classes.{lastRound}
+use Rattle.number.specs.Numbers.{Joined, classesReached, Numbered}
 use Rattle.tables.proofs.States.{length-states}
 use Rattle.tables.proofs.Buffers.{take-written}
-use Rattle.join.proofs.Classing.{reached-low}
+use Rattle.number.proofs.Classing.{reached-low}
 use Rattle.build.proofs.Books.{order-states, numbered-minimal}
 
 pub take-replicate : (k n : ℕ) → k ≤ n → take {A = ℕ} k (replicate n 0) ≡ replicate k 0

@@ -33,8 +33,8 @@ fn write_joined(
     ensures { λ r. ⌜ now (book .exit) ≡ written (bookBytes (frame (now (policy .entry))) (minimal w (rowsIn (now (raw .entry)) n w))) (now (book .entry)) ⌝ }
 {
     let size = n + 1;
-    join::refine::refine_all(raw, w, &mut classes[..size], &mut next[..size]);
-    let k = join::number::number(raw, w, &classes[..size], order, &mut numbers[..size]);
+    refine::refine_all(raw, w, &mut classes[..size], &mut next[..size]);
+    let k = number::number(raw, w, &classes[..size], order, &mut numbers[..size]);
     write::write_book(book, policy, raw, w, &order[..k], &numbers[..size])
 }
 

@@ -5,23 +5,13 @@ use Prim.Native.Nat.{ℕ}
 use Rattle.automaton.specs.Machine.{after}
 use Rattle.definitions.specs.Book.{bookMachine}
 use Rattle.definitions.specs.Refusal.{bookRefusal}
-use Rattle.definitions.specs.Opened.{openRefusal, stepRefusal, stepState, walkState, walkHistory}
+use Rattle.definitions.specs.Opened.{openRefusal, stepRefusal, walkState, walkHistory}
 use Rattle.walk.specs.Walk.{openState}
 use Rattle.walk.proofs.Histories.{walked}
 use Rattle.walk.proofs.Walking.{open-starts}
 use Rattle.playtext.specs.Lines.{stateLine, answerLine}
 use Rattle.playtext.specs.Play.{stepLines, playLines}
-
--- one more step at the end of a list
-walk-last : (b : List ℕ) (s : ℕ) (cs : List ℕ) (c : ℕ) → walkState b s (cs ++ (c ∷ [])) ≡ stepState b (walkState b s cs) c
-walk-last b s [] c = refl
-walk-last b s (d ∷ cs) c = walk-last b (stepState b s d) cs c
-
-lines-last : (b : List ℕ) (s : ℕ) (cs : List ℕ) (c : ℕ) → stepLines b s (cs ++ (c ∷ [])) ≡ stepLines b s cs ++ answerLine b (stepRefusal b (walkState b s cs) c) (walkState b s (cs ++ (c ∷ [])))
-lines-last b s [] c = append-nil (answerLine b (stepRefusal b s c) (stepState b s c))
-lines-last b s (d ∷ cs) c =
-    ap (λ (r : List ℕ). answerLine b (stepRefusal b s d) (stepState b s d) ++ r) (lines-last b (stepState b s d) cs c)
-    ∙ sym (append-assoc (answerLine b (stepRefusal b s d) (stepState b s d)) (stepLines b (stepState b s d) cs) (answerLine b (stepRefusal b (walkState b (stepState b s d) cs) c) (walkState b (stepState b s d) (cs ++ (c ∷ [])))))
+use Rattle.playtext.proofs.Turns.{lines-last}
 
 module _ (b : List ℕ) (passes : bookRefusal b ≡ 0) where
   opens : openRefusal b ≡ 0

@@ -2,6 +2,4 @@
 pub mod Answers
 pub mod Histories
 pub mod Inputs
-pub mod Lending
 pub mod Turns
-pub mod Writing

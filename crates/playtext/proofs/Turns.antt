@@ -1,140 +1,108 @@
--- A list of steps played one more at a time: what is reached, and the lines so far.
-use mathlib.Core.Path.{_≡_, refl, sym, ap, _∙_}
-use mathlib.Core.Bool.{Bool, cond, true, false}
+-- A list of steps played one more at a time: the lines so far, and the state reached.
+use mathlib.Core.Path.{_≡_, refl, sym, ap, subst, _∙_}
+use mathlib.Core.Bool.{cond}
 use mathlib.Core.List.{List, [], _∷_, _++_, append-assoc, append-nil}
-use Prim.Native.Nat.{ℕ, zero, suc, _+_, _*_, _≤_, _<_}
-use native.Mathlib.Decide.{ℕ-discrete}
+use Prim.Native.Nat.{ℕ, _+_, _*_, _≤_, _<_}
 use native.Mathlib.Numerals.{add-one}
 use native.Mathlib.Omega.{arith}
 use lib.Dec.{eqb}
 use lib.ListN.{length, getD, take}
-use lib.Seq.{take-length}
-use borrow.Author.Tests.{le-leb}
+use lib.Seq.{take-suc, take-length}
+use borrow.Author.Tests.{eq-eqb, ne-eqb}
 use Rattle.definitions.specs.Book.{states}
 use Rattle.definitions.specs.Refusal.{bookRefusal}
-use Rattle.definitions.specs.Opened.{openRefusal, stateHolds, stepRefusal, stepState, walkState}
+use Rattle.definitions.specs.Opened.{openRefusal, stepRefusal, stepState, walkState}
+use Rattle.definitions.proofs.Accepted.{book-passed}
+use Rattle.definitions.proofs.Tests.{within-true}
 use Rattle.text.specs.Put.{Put}
-use Rattle.text.proofs.Putting.{then, put-length}
-use Rattle.walk.specs.declared.Stepped.{Stepped}
+use Rattle.text.proofs.Putting.{then}
 use Rattle.walk.specs.Walk.{openState}
-use Rattle.walk.proofs.Histories.{Walked, walked}
-use Rattle.walk.proofs.Walking.{open-starts, step-refused}
+use Rattle.walk.proofs.Histories.{step-within}
+use Rattle.walk.proofs.Walking.{open-starts}
 use Rattle.playtext.specs.Lines.{Stands, answerLine}
 use Rattle.playtext.specs.Play.{stepLines, playLines}
+use Rattle.playtext.proofs.Answers.{nothing-put}
 
--- ---- what a list of steps leads to: the number of the last call, and the state
-abbrev pub next : List ℕ → Stepped → ℕ → Stepped
-next b t c = record { number = stepRefusal b (t .state) c; state = stepState b (t .state) c }
+-- one more step at the end of a list
+walk-last : (b : List ℕ) (s : ℕ) (cs : List ℕ) (c : ℕ) → walkState b s (cs ++ (c ∷ [])) ≡ stepState b (walkState b s cs) c
+walk-last b s [] c = refl
+walk-last b s (d ∷ cs) c = walk-last b (stepState b s d) cs c
 
-abbrev pub start : List ℕ → Stepped
-start b = record { number = openRefusal b; state = openState b }
+pub lines-last : (b : List ℕ) (s : ℕ) (cs : List ℕ) (c : ℕ) → stepLines b s (cs ++ (c ∷ [])) ≡ stepLines b s cs ++ answerLine b (stepRefusal b (walkState b s cs) c) (walkState b s (cs ++ (c ∷ [])))
+lines-last b s [] c = append-nil (answerLine b (stepRefusal b s c) (stepState b s c))
+lines-last b s (d ∷ cs) c =
+    ap (λ (r : List ℕ). answerLine b (stepRefusal b s d) (stepState b s d) ++ r) (lines-last b (stepState b s d) cs c)
+    ∙ sym (append-assoc (answerLine b (stepRefusal b s d) (stepState b s d)) (stepLines b (stepState b s d) cs) (answerLine b (stepRefusal b (walkState b (stepState b s d) cs) c) (walkState b (stepState b s d) (cs ++ (c ∷ [])))))
 
-abbrev run : List ℕ → Stepped → List ℕ → Stepped
-run b t [] = t
-run b t (c ∷ cs) = run b (next b t c) cs
+-- ---- the loop's invariant: the lines of the first i steps are put, each in at most 512 bytes, and the state is the one that these steps lead to
+pub record Turn (b : List ℕ) (start : ℕ) (cs before : List ℕ) (at i state next : ℕ) (out : List ℕ) : Type 0 where
+  pub least : i ≤ length cs
+  pub led : state ≡ walkState b start (take i cs)
+  pub stands : Stands b state
+  pub put : Put before at (stepLines b start (take i cs)) out next
+  pub short : next ≤ at + 512 * i
 
--- after the first i steps
-abbrev pub reached : List ℕ → List ℕ → ℕ → Stepped
-reached b cs i = run b (start b) (take i cs)
+step-stands : (b : List ℕ) (s c : ℕ) → Stands b s → Stands b (stepState b s c)
+step-stands b s c h =
+    record {
+      passes = h .passes;
+      holds = within-true 1 (stepState b s c) (states b) .1 (step-within b (book-passed b .0 (h .passes)) s c (within-true 1 s (states b) .0 (h .holds)));
+    }
 
-run-suc : (b : List ℕ) (t : Stepped) (cs : List ℕ) (i : ℕ) → i < length cs → run b t (take (suc i) cs) ≡ next b (run b t (take i cs)) (getD cs i 0)
-run-suc b t [] i l = absurd (omega arith)
-run-suc b t (c ∷ cs) zero l = refl
-run-suc b t (c ∷ cs) (suc i) l = run-suc b (next b t c) cs i (omega arith)
+module _ (b : List ℕ) (start : ℕ) (cs before : List ℕ) (at : ℕ) where
+  pub begun : Stands b start → Turn b start cs before at 0 start at before
+  begun h = record { least = omega arith; led = refl; stands = h; put = nothing-put before at; short = omega arith }
 
-pub reached-more : (b cs : List ℕ) (i : ℕ) → i < length cs → reached b cs (i + 1) ≡ next b (reached b cs i) (getD cs i 0)
-reached-more b cs i l = rw (add-one i) (run-suc b (start b) cs i l)
+  module _ {i state next : ℕ} {out : List ℕ} (t : Turn b start cs before at i state next out) where
+    pub there-stands : (code there : ℕ) → there ≡ stepState b state code → Stands b there
+    there-stands code there e = rw e (step-stands b state code (t .stands))
 
-run-state : (b : List ℕ) (t : Stepped) (cs : List ℕ) → run b t cs .state ≡ walkState b (t .state) cs
-run-state b t [] = refl
-run-state b t (c ∷ cs) = run-state b (next b t c) cs
+    -- a step: its code, the number that it answers, and the state there
+    pub more : (code number there : ℕ) {after : List ℕ} {end : ℕ} → i < length cs → code ≡ getD cs i 0 → number ≡ stepRefusal b state code → there ≡ stepState b state code
+        → Put out next (answerLine b number there) after end → end ≤ next + 512 → Turn b start cs before at (i + 1) there end after
+    more code number there {after} {end} l ec en et p m =
+        record {
+          least = omega arith;
+          led = rw one-more is;
+          stands = there-stands code there et;
+          put = rw (one-more, lines-last b start (take i cs) code, ← t .led, ← is, ← en) (then (t .put) p);
+          short = omega (arith, t .short);
+        }
+      where
+        one-more : take (i + 1) cs ≡ take i cs ++ (code ∷ [])
+        one-more = rw (add-one i, ec) (take-suc cs i 0 l)
 
--- a call that is not refused has a book that the checks pass
-module _ (b : List ℕ) where
-  next-passes : (t : Stepped) (c : ℕ) → next b t c .number ≡ 0 → bookRefusal b ≡ 0
-  next-passes t c e = go (ℕ-discrete (bookRefusal b) 0)
-    where
-      go : Dec (bookRefusal b ≡ 0) → bookRefusal b ≡ 0
-      go (yes z) = z
-      go (no f) = step-refused b (t .state) c (bookRefusal b) refl f .0 ∙ e
+        is : there ≡ walkState b start (take i cs ++ (code ∷ []))
+        is = et ∙ rw (t .led) (sym (walk-last b start (take i cs) code))
 
-  run-passes : (t : Stepped) → (t .number ≡ 0 → bookRefusal b ≡ 0) → (cs : List ℕ) → run b t cs .number ≡ 0 → bookRefusal b ≡ 0
-  run-passes t f [] e = f e
-  run-passes t f (c ∷ cs) e = run-passes (next b t c) (next-passes t c) cs e
+    pub done : length cs ≤ i → Put before at (stepLines b start cs) out next × (next ≤ at + 512 * length cs)
+    done l =
+        let e : i ≡ length cs = omega (arith, t .least) in
+        let all : take i cs ≡ cs = rw e (take-length cs) in (rw all at (t .put), omega (arith, t .short))
 
-  start-passes : start b .number ≡ 0 → bookRefusal b ≡ 0
+-- ---- the opening, and the steps after it
+none-tried : (first tried : List ℕ) (number : ℕ) → (number ≡ 0 → ⊥) → first ++ cond (eqb number 0) tried [] ≡ first
+none-tried first tried number f = rw (ne-eqb number 0 f) (append-nil first)
+
+all-tried : (first tried : List ℕ) (number : ℕ) → number ≡ 0 → first ++ cond (eqb number 0) tried [] ≡ first ++ tried
+all-tried first tried number z = rw (eq-eqb number 0 z)
+
+module _ (b : List ℕ) (number state : ℕ) (en : number ≡ openRefusal b) (es : state ≡ openState b) where
+  pub open-stands : number ≡ 0 → Stands b state
   unfolding openRefusal
-  start-passes e = e
-
-  state-is : bookRefusal b ≡ 0 → (cs : List ℕ) → run b (start b) cs .state ≡ walkState b 1 cs
-  state-is e cs = run-state b (start b) cs ∙ ap (λ (s : ℕ). walkState b s cs) (sym (open-starts b (bookRefusal b) refl e .1))
-
-  pub reached-stands : (cs : List ℕ) (i : ℕ) → reached b cs i .number ≡ 0 → Stands b (reached b cs i .state)
-  reached-stands cs i e = go (run-passes (start b) start-passes (take i cs) e)
+  open-stands z = record { passes = passes; holds = within-true 1 state (states b) .1 (rw (es ∙ sym starts) (omega arith, book-passed b .0 passes .layout .statesSome)) }
     where
-      go : bookRefusal b ≡ 0 → Stands b (reached b cs i .state)
-      go z = record { passes = z; holds = rw (state-is z (take i cs)) (holds (walked b z (take i cs))) }
-        where
-          holds : Walked b (take i cs) → stateHolds b (walkState b 1 (take i cs)) ≡ true
-          holds w = rw (le-leb 1 (walkState b 1 (take i cs)) (w .some), le-leb (walkState b 1 (take i cs)) (states b) (w .few))
+      passes : bookRefusal b ≡ 0
+      passes = sym en ∙ z
 
--- ---- the lines after the first i steps
-abbrev pub linesTo : List ℕ → List ℕ → ℕ → List ℕ
-linesTo b cs i = answerLine b (openRefusal b) (openState b) ++ stepLines b (openState b) (take i cs)
+      starts : 1 ≡ openState b
+      starts = open-starts b (bookRefusal b) refl passes .1
 
-lines-suc : (b : List ℕ) (t : Stepped) (cs : List ℕ) (i : ℕ) → i < length cs
-    → stepLines b (t .state) (take (suc i) cs) ≡ stepLines b (t .state) (take i cs) ++ answerLine b (run b t (take (suc i) cs) .number) (run b t (take (suc i) cs) .state)
-lines-suc b t [] i l = absurd (omega arith)
-lines-suc b t (c ∷ cs) zero l = append-nil (answerLine b (next b t c .number) (next b t c .state))
-lines-suc b t (c ∷ cs) (suc i) l =
-    ap (λ (r : List ℕ). answerLine b (next b t c .number) (next b t c .state) ++ r) (lines-suc b (next b t c) cs i (omega arith))
-    ∙ sym (append-assoc (answerLine b (next b t c .number) (next b t c .state)) (stepLines b (next b t c .state) (take i cs)) (answerLine b (run b (next b t c) (take (suc i) cs) .number) (run b (next b t c) (take (suc i) cs) .state)))
+  module _ (cs : List ℕ) {before out : List ℕ} {at next : ℕ} (opening : Put before at (answerLine b number state) out next) where
+    pub only-opened : (number ≡ 0 → ⊥) → Put before at (playLines b cs) out next
+    unfolding playLines
+    only-opened f = rw (← es, ← en) (subst (λ (l : List ℕ). Put before at l out next) (sym (none-tried (answerLine b number state) (stepLines b state cs) number f)) opening)
 
-pub lines-more : (b cs : List ℕ) (i : ℕ) → i < length cs → linesTo b cs (i + 1) ≡ linesTo b cs i ++ answerLine b (reached b cs (i + 1) .number) (reached b cs (i + 1) .state)
-lines-more b cs i l = rw (add-one i, lines-suc b (start b) cs i l) (sym (append-assoc (answerLine b (openRefusal b) (openState b)) (stepLines b (openState b) (take i cs)) (answerLine b (reached b cs (suc i) .number) (reached b cs (suc i) .state))))
-
-lines-all : (b cs : List ℕ) (count : ℕ) → count ≡ cond (eqb (openRefusal b) 0) (length cs) 0 → linesTo b cs count ≡ playLines b cs
-unfolding playLines
-lines-all b cs count e = go (eqb (openRefusal b) 0) refl
-  where
-    first : List ℕ
-    first = answerLine b (openRefusal b) (openState b)
-
-    go : (t : Bool) → eqb (openRefusal b) 0 ≡ t → linesTo b cs count ≡ first ++ cond (eqb (openRefusal b) 0) (stepLines b (openState b) cs) []
-    go true z = let is : count ≡ length cs = e ∙ rw z in rw (z, is, take-length cs)
-    go false z = let is : count ≡ 0 = e ∙ rw z in rw (z, is)
-
--- ---- the loop's invariant: the lines after i of `count` steps stand at the front of the buffer, each in at most 512 bytes
-pub record Turn (b cs before : List ℕ) (count : ℕ) : Type 0 where
-  pub i : ℕ
-  pub at : ℕ
-  pub out : List ℕ
-  pub least : i ≤ count
-  pub put : Put before 0 (linesTo b cs i) out at
-  pub short : at ≤ 512 * (i + 1)
-
-module _ (b cs before : List ℕ) (count : ℕ) (is : count ≡ cond (eqb (openRefusal b) 0) (length cs) 0) where
-  pub count-most : count ≤ length cs
-  count-most = rw is (go (eqb (openRefusal b) 0))
-    where
-      go : (t : Bool) → cond t (length cs) 0 ≤ length cs
-      go true = omega arith
-      go false = omega arith
-
-  abbrev pub begun : (out : List ℕ) (at : ℕ) → Put before 0 (answerLine b (openRefusal b) (openState b)) out at → at ≤ 0 + 512 → Turn b cs before count
-  begun out at p l = record { i = 0; at = at; out = out; least = omega arith; put = rw append-nil p; short = omega arith }
-
-  module _ (t : Turn b cs before count) where
-    pub within : t .i < count → t .i < length cs
-    within l = omega (arith, l, count-most)
-
-    -- there is room for a line
-    pub roomy : 512 * (length cs + 1) ≤ length before → t .i < count → t .at + 512 ≤ length (t .out)
-    roomy room l = omega (arith, t .short, count-most, put-length (t .put))
-
-    abbrev pub more : (out : List ℕ) (at : ℕ) → t .i < count → Put (t .out) (t .at) (answerLine b (reached b cs (t .i + 1) .number) (reached b cs (t .i + 1) .state)) out at → at ≤ t .at + 512
-        → Turn b cs before count
-    more out at l p m = record { i = t .i + 1; at = at; out = out; least = omega arith; put = rw (lines-more b cs (t .i) (omega (arith, count-most))) (then (t .put) p); short = omega (arith, t .short) }
-
-    pub done : count ≤ t .i → Put before 0 (playLines b cs) (t .out) (t .at) × (t .at ≤ 512 * (length cs + 1))
-    done l = let e : t .i ≡ count = omega (arith, t .least) in (rw (← lines-all b cs count is, ← e) (t .put), omega (arith, t .short, t .least, count-most))
+    pub all-played : {after : List ℕ} {end : ℕ} → number ≡ 0 → Put out next (stepLines b state cs) after end → Put before at (playLines b cs) after end
+    unfolding playLines
+    all-played {after} {end} z p = rw (← es, ← en) (subst (λ (l : List ℕ). Put before at l after end) (sym (all-tried (answerLine b number state) (stepLines b state cs) number z)) (then opening p))

@@ -10,7 +10,7 @@ ghost use Rattle.definitions.specs.Bytes.{byte};
 ghost use Rattle.text.specs.Room.{lengthWithin, writtenWithin};
 ghost use Rattle.playtext.specs.Play.{lengthIn, playText};
 use automaton::wide;
-use steps::put_steps;
+use steps::put_play;
 
 // The text for an input. A buffer under 131,072 bytes gets nothing, and the answer is 0.
 pub fn play(input: &[u8], out: &mut [u8]) -> usize
@@ -23,7 +23,7 @@ pub fn play(input: &[u8], out: &mut [u8]) -> usize
     }
     let rest = without(input, 2);
     let length = book_length(input);
-    put_steps(first(rest, length), first(without(rest, length), 255), out)
+    put_play(first(rest, length), first(without(rest, length), 255), out)
 }
 
 // The length of the book, in the first two bytes, the high byte first.

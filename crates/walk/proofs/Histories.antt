@@ -51,7 +51,7 @@ abbrev IsState : List ℕ → ℕ → Type 0
 IsState b s = (1 ≤ s) × (s ≤ states b)
 
 module _ (b : List ℕ) (p : BookPassed b) where
-  step-within : (s c : ℕ) → IsState b s → IsState b (stepState b s c)
+  pub step-within : (s c : ℕ) → IsState b s → IsState b (stepState b s c)
   step-within s c h = go (eqb (stepRefusal b s c) 0) refl
     where
       go : (t : Bool) → eqb (stepRefusal b s c) 0 ≡ t → IsState b (stepState b s c)

@@ -1,5 +1,5 @@
 use Rattle.build.proofs.Finishing.{take-replicate, Classed, classed, order-low, order-length, numbers-length, numbers-table, order-below, rows-fit, rows-are}
-use Rattle.join.specs.Numbers.{Numbered}
+use Rattle.number.specs.Numbers.{Numbered}
 use Rattle.write.specs.Rows.{numberedRows}
 use Rattle.definitions.specs.Book.{bookBytes}
 use Rattle.definitions.specs.Policy.{frame}

@@ -31,8 +31,8 @@ without-requires-2 c κs = search needs
 first-requires-2 : tie.Need-first-requires-2
 first-requires-2 c κs = search needs
 
-put-steps-requires : tie.Need-put-steps-requires
-put-steps-requires c κs =
+put-play-requires : tie.Need-put-play-requires
+put-play-requires c κs =
     let f = c .before in
     let short = ap length (f .first2 .ensures) in
     omega (arith, short, few-taken 255 (f .before .without2 .result .now))
@@ -48,9 +48,9 @@ returns-2 c =
     let n = b .before in
     let r = n .before in
     let s = r .before .before .before .before in
-    let put = c .before .before .put-steps .ensures in
+    let put = c .before .before .put-play .ensures in
     let read = input-read (s .args .input .now) _ _ _ _ _ (r .without .ensures) (n .book-length .ensures) (b .first .ensures) (w .without2 .ensures) (f .first2 .ensures) in
-    let short : c .before .before .put-steps .result ≤ 131072 = omega (arith, put .1, ap length (f .first2 .ensures), few-taken 255 (w .without2 .result .now)) in
+    let short : c .before .before .put-play .result ≤ 131072 = omega (arith, put .1, ap length (f .first2 .ensures), few-taken 255 (w .without2 .result .now)) in
     let is = long-enough 131072 (playText (s .args .input .now)) (s .args .out .now) (r .before .if1 .left) short (rw read at (put .0)) in
     (is .0, (is .1, omega (arith, short)))
 
@@ -64,6 +64,6 @@ play-spec =
     first-requires
     without-requires-2
     first-requires-2
-    put-steps-requires
+    put-play-requires
     same-length
     returns-2)

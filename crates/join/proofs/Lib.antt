@@ -1,9 +1,0 @@
-pub mod StateWords
-pub mod Rounds
-pub mod Settling
-pub mod Staying
-pub mod Refinement
-pub mod Numbering
-pub mod Classing
-pub mod Spreading
-pub mod Ordering

@@ -1,3 +1,0 @@
-pub mod Words
-pub mod Classes
-pub mod Numbers

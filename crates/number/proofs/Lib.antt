@@ -1,0 +1,4 @@
+pub mod Numbering
+pub mod Classing
+pub mod Spreading
+pub mod Ordering

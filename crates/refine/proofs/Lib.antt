@@ -1,0 +1,5 @@
+pub mod StateWords
+pub mod Rounds
+pub mod Settling
+pub mod Staying
+pub mod Refinement

@@ -1,0 +1,66 @@
+use mathlib.Core.Path.{sym, _∙_}
+use Prim.Native.Nat.{_≤_}
+use Rattle.definitions.specs.Bytes.{byte}
+use native.Mathlib.Omega.{arith}
+use Rattle.refine.proofs.Rounds.{class-bounds}
+use borrow.Author.Needs.{needs}
+use Rattle.refine.proofs.next_class.Statement.{statement}
+use Rattle.refine.proofs.next_class.Tie as tie
+
+-- the class of the state is a state that is not after it
+bounds : (c : tie.Start) → (1 ≤ byte (c .args .classes .now) (c .args .s)) × (byte (c .args .classes .now) (c .args .s) ≤ c .args .s)
+bounds c = class-bounds (c .pre .0 .0) (c .args .s) (c .pre .1 .0 .0) (c .pre .1 .0 .1)
+
+shared-slice-read-wide : tie.Need-shared-slice-read-wide
+shared-slice-read-wide c = search needs
+
+wide-requires : tie.Need-wide-requires
+wide-requires c κs = search needs
+
+sub-if1 : tie.Need-sub-if1
+sub-if1 c = search needs
+
+mul-if1 : tie.Need-mul-if1
+mul-if1 c = search needs
+
+shared-slice-read-if1 : tie.Need-shared-slice-read-if1
+shared-slice-read-if1 c = search needs
+
+sub-if1-2 : tie.Need-sub-if1-2
+sub-if1-2 c = rw (c .before .wide .ensures .0) (bounds (c .before .before .before .before .before .before .before) .0)
+
+mul-if1-2 : tie.Need-mul-if1-2
+mul-if1-2 c = search needs
+
+shared-slice-read-if1-2 : tie.Need-shared-slice-read-if1-2
+shared-slice-read-if1-2 c =
+    let p = c .before .before .before .before .before .before .before .before in
+    rw (c .before .before .wide .ensures .0) (omega (arith, bounds p, p .pre .0 .1 .words, p .pre .1 .0 .1))
+
+returns : tie.Need-returns
+returns c =
+    let p = c .before .before .before .before .before .before .before .before .before in
+    c .before .before .before .wide .ensures .0 ∙ sym (p .pre .0 .1 .stays (p .args .s) (p .pre .1 .0 .0) (p .pre .1 .0 .1)
+    (rw (c .before .before .before .wide .ensures .0) at (c .if1 .taken)))
+
+first-alike-requires : tie.Need-first-alike-requires
+first-alike-requires c κs = search needs
+
+returns-2 : tie.Need-returns-2
+returns-2 c = search needs
+
+pub next-class-spec : {M : Type 1} → statement M
+next-class-spec =
+    tie.close
+    (tie.spec
+    shared-slice-read-wide
+    wide-requires
+    sub-if1
+    mul-if1
+    shared-slice-read-if1
+    sub-if1-2
+    mul-if1-2
+    shared-slice-read-if1-2
+    returns
+    first-alike-requires
+    returns-2)
