@@ -18,12 +18,12 @@ use Rattle.automaton.proofs.Counting.{and-true}
 use Rattle.automaton.proofs.Order.{tri}
 use Rattle.definitions.specs.Bytes.{bit}
 use Rattle.definitions.specs.Situation.{emptySet, insert, requestOf, decisionOf}
-use Rattle.images.specs.Tables.{Filled}
+use Rattle.rules.specs.Tables.{Filled}
 use Rattle.images.specs.Choice.{joined, withTarget, withMost, levelIn, greatest, withChosen, chosenBy, leading, Listed, Chosen, chosenFor}
 use Rattle.images.specs.declared.deciding.Choice.{Choice}
-use Rattle.images.proofs.RuleSets.{bit-and, none-from, Member}
+use Rattle.rules.proofs.RuleSets.{bit-and, none-from, Member}
 use Rattle.images.proofs.Levels.{most-at}
-use Rattle.images.proofs.Tables.{filled-more}
+use Rattle.rules.proofs.Tables.{filled-more}
 
 -- turns that change nothing can be left out
 pub fold-idle : (f : ℕ → ℕ → ℕ) (a k n : ℕ) → k ≤ n → ((i x : ℕ) → k ≤ i → i < n → f i x ≡ x) → foldBelow n a f ≡ foldBelow k a f

@@ -2,7 +2,7 @@
 use mathlib.Core.Path.{_≡_, refl, sym, ap, _∙_}
 use mathlib.Core.Bool.{Bool, cond, true, false, _&&_}
 use mathlib.Core.List.{List}
-use Prim.Native.Nat.{ℕ, zero, suc, _+_, _-_, _*_, _<_, _≤_}
+use Prim.Native.Nat.{ℕ, _+_, _-_, _*_, _<_, _≤_}
 use native.Mathlib.Nat.{suc-mul}
 use native.Mathlib.Numerals.{add-one}
 use native.Mathlib.Omega.{arith}
@@ -12,27 +12,24 @@ use lib.Dec.{eqb}
 use lib.ListN.{length, getD, take, drop}
 use borrow.Author.Tests.{lt-ltb, le-ltb}
 use borrow.Rule.Slice.PartMut.{putMid}
-use Rattle.automaton.specs.Below.{allBelow}
 use Rattle.automaton.proofs.Congruence.{fold-below-same}
 use Rattle.automaton.proofs.Loops.{row-within}
 use Rattle.definitions.specs.Bytes.{bit}
-use Rattle.definitions.specs.Policy.{events, fields, variables, rules, requests, width, rule, mask, decision, change, value}
+use Rattle.definitions.specs.Policy.{events, variables, rules, requests, width, rule, decision, change, value}
 use Rattle.definitions.specs.Valuation.{valuations, variableIn, byRule}
 use Rattle.definitions.specs.Situation.{fits, applies, emptySet, insert, withRule, requestImage, requestOf, decisionOf}
-use Rattle.definitions.proofs.Requests.{value-below}
-use Rattle.policy.specs.Record.{partTestPasses}
 use Rattle.policy.specs.Sized.{Passed}
-use Rattle.policy.proofs.Checked.{count-in-range}
-use Rattle.images.specs.Tables.{entryOf, Tabled, Filled}
-use Rattle.images.specs.Rules.{maskLetsBy, ruleLets, letting, lettingRequest, testPassesBy, ruleEnabled, enabling}
+use Rattle.rules.specs.Tables.{entryOf, Tabled, Filled}
+use Rattle.rules.specs.Rules.{ruleLets, lettingRequest, ruleEnabled, enabling}
 use Rattle.images.specs.Choice.{Listed, levelIn, withMost, greatest, withChosen, leading, chosenFor}
 use Rattle.images.specs.Images.{ruleLevel, ruleDecision, ruleTarget, eventFrom, imageFrom, imageAt, ImagesFilled}
-use Rattle.images.proofs.RuleSets.{bit-and, bit-passing, passing-below, passing-same}
+use Rattle.rules.proofs.RuleSets.{bit-and, bit-passing, passing-below}
 use Rattle.images.proofs.Levels.{by-level, seen, top}
 use Rattle.images.proofs.Choosing.{leading-idle}
-use Rattle.images.proofs.Valuations.{variable-most, carried-below}
+use Rattle.rules.proofs.Values.{enabling-same}
+use Rattle.rules.proofs.Valuations.{variable-most, carried-below}
 use Rattle.images.proofs.Targets.{rule-target-same, event-from-same}
-use Rattle.images.proofs.Tables.{filled-as, filled-join, filled-part}
+use Rattle.rules.proofs.Tables.{filled-as, filled-join, filled-part}
 
 -- rule i for request r in valuation v
 abbrev fitsOf : List ℕ → ℕ → ℕ → ℕ → Bool
@@ -40,28 +37,6 @@ fitsOf p r v i = fits p (rule p i) r v
 
 cond-same : (a b : Bool) (x y z : ℕ) → a ≡ b → x ≡ y → cond a x z ≡ cond b y z
 cond-same a b x y z e f = rw (e, f)
-
-all-below-same : (f g : ℕ → Bool) (n : ℕ) → ((k : ℕ) → k < n → f k ≡ g k) → allBelow n f ≡ allBelow n g
-all-below-same f g zero same = refl
-all-below-same f g (suc n) same = rw (all-below-same f g n (λ k l. same k (omega arith)), same n (omega arith))
-
--- ---- sets of rules by tables of values
-module _ (p : List ℕ) (x y : ℕ → ℕ) where
-  pub letting-same : ((f : ℕ) → f < fields p → x f ≡ y f) → letting p x ≡ letting p y
-  letting-same same =
-      passing-same (ruleLets p x) (ruleLets p y) (rules p)
-      (λ k l. all-below-same (maskLetsBy (rule p k) x) (maskLetsBy (rule p k) y) (fields p) (λ f m. ap (bit (mask (rule p k) f)) (same f m)))
-
-  enabling-same : ((j : ℕ) → j < variables p → x j ≡ y j) → enabling p x ≡ enabling p y
-  enabling-same same =
-      passing-same (ruleEnabled p x) (ruleEnabled p y) (rules p)
-      (λ k l. all-below-same (testPassesBy p (rule p k) x) (testPassesBy p (rule p k) y) (variables p) (λ j m. ap (partTestPasses p (rule p k) j) (same j m)))
-
--- the values of a request's fields number bits of a word
-pub value-small : (p : List ℕ) → Passed p → (r f : ℕ) → f < fields p → value p r f < 64
-value-small p h r f l =
-    let n = count-in-range p (h .counts) f l in
-    let m = value-below p (λ g k. count-in-range p (h .counts) g k .0) r f l in omega arith
 
 -- ---- the tables of one valuation, and the set of the rules that are enabled in it
 pub record Tables (p : List ℕ) (v : ℕ) (values lets : List ℕ) (able : ℕ) (levels decisions targets : List ℕ) : Type 0 where

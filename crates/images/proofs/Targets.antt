@@ -8,8 +8,9 @@ use Rattle.definitions.specs.Policy.{events, fields, variables, rule, change, e
 use Rattle.definitions.specs.Situation.{emptySet, insert}
 use Rattle.policy.specs.Sized.{RuleOf, ChangesOf}
 use Rattle.policy.proofs.Parts.{change-within}
-use Rattle.images.specs.Images.{Spread, spread, carriedBy, ruleTarget, eventFrom}
-use Rattle.images.proofs.Valuations.{carried-same}
+use Rattle.rules.specs.Valuations.{Spread, spread, carriedBy}
+use Rattle.images.specs.Images.{ruleTarget, eventFrom}
+use Rattle.rules.proofs.Valuations.{carried-same}
 
 -- a rule's changes stand three bytes apart, from the fifth byte after its masks on
 pub rule-spread : (p q : List ℕ) (f : ℕ) → RuleOf p q → f ≡ fields p → Spread q (2 * f + 4) 3 (variables p)

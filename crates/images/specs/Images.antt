@@ -3,16 +3,15 @@ use mathlib.Core.Path.{_≡_}
 use mathlib.Core.List.{List}
 use Prim.Native.Nat.{ℕ, _+_, _*_, _/_, _%_, _<_, _≤_}
 use lib.ListN.{length, getD}
-use Rattle.automaton.specs.Below.{foldBelow}
-use Rattle.definitions.specs.Bytes.{byte}
 use Rattle.definitions.specs.Policy.{variables, rules, requests, width, rule, decision, level, change, eventChange}
-use Rattle.definitions.specs.Valuation.{bound, worth, valuations, changed}
+use Rattle.definitions.specs.Valuation.{bound, valuations}
 use Rattle.definitions.specs.Situation.{emptySet, insert, image}
 use Rattle.policy.specs.declared.shape.Shape.{Shape}
 use Rattle.policy.specs.Shape.{shapeOf}
 use Rattle.policy.specs.Sized.{Passed, TableOf}
-use Rattle.images.specs.Tables.{Tabled}
-use Rattle.images.specs.Rules.{lettingRequest}
+use Rattle.rules.specs.Tables.{Tabled}
+use Rattle.rules.specs.Rules.{lettingRequest}
+use Rattle.rules.specs.Valuations.{carriedBy}
 
 abbrev pub ruleLevel : List ℕ → ℕ → ℕ
 ruleLevel p k = level p (rule p k)
@@ -20,27 +19,7 @@ ruleLevel p k = level p (rule p k)
 abbrev pub ruleDecision : List ℕ → ℕ → ℕ
 ruleDecision p k = decision p (rule p k)
 
--- ---- changes that stand in a part of the file, each `step` bytes after the one before it
-abbrev pub spread : List ℕ → ℕ → ℕ → ℕ → ℕ
-spread part first step j = byte part (first + step * j)
-
--- n of them lie in the part
-abbrev pub Spread : List ℕ → ℕ → ℕ → ℕ → Type 0
-Spread part first step n = (j : ℕ) → j < n → first + step * j < length part
-
--- ---- where changes lead from the values x of the variables. At the values of valuation v these are carriedOut, byRule and eventImage
-
--- a table of values of the variables
-pub record Valued (p values : List ℕ) : Type 0 where
-  pub room : variables p ≤ length values
-  pub most : (j : ℕ) → j < variables p → getD values j 0 ≤ bound p j
-
-abbrev pub withChangedBy : List ℕ → (ℕ → ℕ) → (ℕ → ℕ) → ℕ → ℕ → ℕ
-withChangedBy p changes x j u = u + changed (changes j) (bound p j) (x j) * worth p j
-
-abbrev pub carriedBy : List ℕ → (ℕ → ℕ) → (ℕ → ℕ) → ℕ
-carriedBy p changes x = foldBelow (variables p) 0 (withChangedBy p changes x)
-
+-- ---- where rules and events lead from the values x of the variables. At the values of valuation v these are byRule and eventImage
 abbrev pub ruleTarget : List ℕ → (ℕ → ℕ) → ℕ → ℕ
 ruleTarget p x k = carriedBy p (change p (rule p k)) x
 

@@ -1,4 +1,2 @@
-pub mod Tables
-pub mod Rules
 pub mod Choice
 pub mod Images

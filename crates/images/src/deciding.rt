@@ -2,9 +2,9 @@
 ghost use mathlib.Core.Path.{_≡_};
 ghost use Prim.Native.Nat.{_+_, _*_, _<_, _≤_, max};
 ghost use lib.ListN.{length};
-ghost use Rattle.images.specs.Tables.{Filled};
+ghost use Rattle.rules.specs.Tables.{Filled};
 ghost use Rattle.images.specs.Choice.{joined, kept, withTarget, Listed, Chosen, chosenFor};
-use super::sets;
+use rules::sets;
 use situation::Situation;
 
 // The greatest level of some rules that fit, 0 if there are none, and where those of that level lead, accepting and rejecting.

@@ -1,8 +1,5 @@
 // Where every code leads from every valuation, as one table of sets.
 mod deciding;
-mod effects;
-mod matching;
-mod sets;
 
 ghost use mathlib.Core.Path.{_≡_};
 ghost use Prim.Native.Nat.{_+_, _*_, _<_, _≤_};
@@ -12,11 +9,14 @@ ghost use Rattle.definitions.specs.Valuation.{bound, valuations};
 ghost use Rattle.definitions.specs.Refusal.{fileRefusal};
 ghost use Rattle.policy.specs.Sized.{Passed, TableOf, ChangesOf};
 ghost use Rattle.policy.specs.Shape.{shapeOf};
-ghost use Rattle.images.specs.Tables.{Filled, Tabled, entryOf};
-ghost use Rattle.images.specs.Images.{ruleLevel, ruleDecision, Valued, ruleTarget, eventFrom, imageFrom, Prepared, imageAt, ImagesFilled};
+ghost use Rattle.rules.specs.Tables.{Filled, Tabled, entryOf};
+ghost use Rattle.rules.specs.Valuations.{Valued};
+ghost use Rattle.images.specs.Images.{ruleLevel, ruleDecision, ruleTarget, eventFrom, imageFrom, Prepared, imageAt, ImagesFilled};
 use policy::header;
 use policy::record;
 use policy::shape::Shape;
+use rules::effects;
+use rules::matching;
 use situation::Situation;
 
 // Entry k is the level of rule k, and its decision. What follows the entries of the last rule stays.

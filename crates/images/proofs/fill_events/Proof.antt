@@ -6,9 +6,9 @@ use borrow.Author.Needs.{needs}
 use Rattle.automaton.proofs.Loops.{row-within}
 use Rattle.definitions.specs.Policy.{events}
 use Rattle.definitions.specs.Situation.{emptySet, insert}
-use Rattle.images.specs.Tables.{Filled, entryOf}
+use Rattle.rules.specs.Tables.{Filled, entryOf}
 use Rattle.images.specs.Images.{eventFrom}
-use Rattle.images.proofs.Tables.{filled-more}
+use Rattle.rules.proofs.Tables.{filled-more}
 use Rattle.images.proofs.Targets.{event-spread, event-target}
 use Rattle.images.proofs.fill_events.Statement.{statement}
 use Rattle.images.proofs.fill_events.Tie as tie

@@ -8,12 +8,12 @@ use Rattle.definitions.specs.Policy.{fields, rules, requests, variables}
 use Rattle.definitions.specs.Valuation.{bound}
 use Rattle.policy.specs.declared.shape.Shape.{Shape}
 use Rattle.policy.specs.Sized.{Passed, TableOf}
-use Rattle.images.specs.Rules.{lettingRequest}
+use Rattle.rules.specs.Rules.{lettingRequest}
 use Rattle.images.specs.Images.{ruleLevel, ruleDecision}
 use Rattle.policy.proofs.Checked.{passed}
 use Rattle.images.proofs.Imaged.{images-filled}
 use Rattle.policy.proofs.Parts.{lent-table}
-use Rattle.images.proofs.Tables.{filled-tabled}
+use Rattle.rules.proofs.Tables.{filled-tabled}
 use Rattle.images.proofs.fill_images.Statement.{statement}
 use Rattle.images.proofs.fill_images.Tie as tie
 

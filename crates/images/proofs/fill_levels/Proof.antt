@@ -6,9 +6,9 @@ use lib.ListN.{length}
 use borrow.Author.Needs.{needs}
 use Rattle.definitions.specs.Policy.{rules, level, decision}
 use Rattle.policy.proofs.Parts.{lent-within, lent-rule, lent-is}
-use Rattle.images.specs.Tables.{Filled}
+use Rattle.rules.specs.Tables.{Filled}
 use Rattle.images.specs.Images.{ruleLevel, ruleDecision}
-use Rattle.images.proofs.Tables.{filled-more}
+use Rattle.rules.proofs.Tables.{filled-more}
 use Rattle.images.proofs.fill_levels.Statement.{statement}
 use Rattle.images.proofs.fill_levels.Tie as tie
 

@@ -8,10 +8,10 @@ use Rattle.definitions.specs.Policy.{events, variables, rules, requests}
 use Rattle.definitions.specs.Valuation.{variableIn}
 use Rattle.policy.specs.declared.shape.Shape.{Shape}
 use Rattle.policy.proofs.Parts.{changes-within, lent-changes}
-use Rattle.images.specs.Tables.{Tabled, entryOf}
+use Rattle.rules.specs.Tables.{Tabled, entryOf}
 use Rattle.images.specs.Images.{ruleTarget}
-use Rattle.images.proofs.Tables.{filled-tabled}
-use Rattle.images.proofs.Valuations.{valued}
+use Rattle.rules.proofs.Tables.{filled-tabled}
+use Rattle.rules.proofs.Valuations.{valued}
 use Rattle.images.proofs.Imaged.{Tables, rules-listed, row-filled}
 use Rattle.images.proofs.fill_row.Statement.{statement}
 use Rattle.images.proofs.fill_row.Tie as tie

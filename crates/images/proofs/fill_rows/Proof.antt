@@ -9,10 +9,10 @@ use Rattle.automaton.proofs.Loops.{part-is-drop, row-within}
 use Rattle.definitions.specs.Policy.{width}
 use Rattle.definitions.specs.Valuation.{valuations}
 use Rattle.policy.specs.declared.shape.Shape.{Shape}
-use Rattle.images.specs.Tables.{Filled}
+use Rattle.rules.specs.Tables.{Filled}
 use Rattle.images.specs.Images.{imageAt}
 use Rattle.images.proofs.Imaged.{rows-more}
-use Rattle.images.proofs.Tables.{filled-none}
+use Rattle.rules.proofs.Tables.{filled-none}
 use Rattle.images.proofs.fill_rows.Statement.{statement}
 use Rattle.images.proofs.fill_rows.Tie as tie
 

@@ -5,10 +5,10 @@ use native.Mathlib.Omega.{arith}
 use lib.ListN.{length}
 use borrow.Author.Needs.{needs}
 use Rattle.definitions.specs.Policy.{rules}
-use Rattle.images.specs.Tables.{Filled, entryOf}
+use Rattle.rules.specs.Tables.{Filled, entryOf}
 use Rattle.images.specs.Images.{ruleTarget}
 use Rattle.policy.proofs.Parts.{lent-within, lent-rule, lent-is}
-use Rattle.images.proofs.Tables.{filled-more}
+use Rattle.rules.proofs.Tables.{filled-more}
 use Rattle.images.proofs.Targets.{rule-spread, rule-target}
 use Rattle.images.proofs.fill_targets.Statement.{statement}
 use Rattle.images.proofs.fill_targets.Tie as tie

@@ -6,7 +6,7 @@ use lib.ListN.{length, getD}
 use lib.Pow.{shr-le}
 use borrow.Author.Needs.{needs}
 use Rattle.images.specs.Choice.{Chosen}
-use Rattle.images.proofs.RuleSets.{Member, lowest-member, left-next}
+use Rattle.rules.proofs.RuleSets.{Member, lowest-member, left-next}
 use Rattle.images.proofs.Choosing.{chosen-turn, chosen-done}
 use Rattle.images.proofs.deciding.choose.Statement.{statement}
 use Rattle.images.proofs.deciding.choose.Tie as tie

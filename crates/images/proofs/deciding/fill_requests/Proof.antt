@@ -4,7 +4,7 @@ use Prim.Native.Nat.{_≤_, _-_, _+_, _*_}
 use native.Mathlib.Omega.{arith}
 use lib.ListN.{getD, length-set}
 use borrow.Author.Needs.{needs}
-use Rattle.images.specs.Tables.{Filled}
+use Rattle.rules.specs.Tables.{Filled}
 use Rattle.images.specs.Choice.{chosenFor}
 use Rattle.images.proofs.Choosing.{listed-both, chosen-is, both-filled}
 use Rattle.images.proofs.deciding.fill_requests.Statement.{statement}

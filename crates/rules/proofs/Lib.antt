@@ -1,0 +1,4 @@
+pub mod Tables
+pub mod RuleSets
+pub mod Values
+pub mod Valuations
