@@ -28,6 +28,10 @@ use Rattle.search.proofs.Reading.{holds-inside, holds-lead}
 use Rattle.verdict.specs.Marks.{marked, unmarkedAt, leadsToMark, Marks, Settled, blockedIn}
 use Rattle.verdict.proofs.Places.{first-none, first-some, take-written}
 
+is-false : (t : Bool) → (t ≡ true → ⊥) → t ≡ false
+is-false true f = absurd (f refl)
+is-false false f = refl
+
 same-not : (s t : Bool) → (t ≡ true → s ≡ false) → (t ≡ false → s ≡ true) → s ≡ not t
 same-not s true f g = f refl
 same-not s false f g = g refl
@@ -36,21 +40,14 @@ same-not s false f g = g refl
 module _ (b : List ℕ) (p : BookPassed b) (marks : List ℕ) (M : Marks b marks) (S : Settled b marks) where
   -- from a state that is not marked events lead to such states
   event-unmarked : (s c : ℕ) → 1 ≤ s → s ≤ states b → marked marks s ≡ false → c < events b → marked marks (entry b s c) ≡ false
-  event-unmarked s c least few e l = go (marked marks (entry b s c)) refl
-    where
-      go : (t : Bool) → marked marks (entry b s c) ≡ t → t ≡ false
-      go false q = refl
-      go true q =
-          let led : anyBelow (events b) (leadsToMark b marks s) ≡ true = any-below (leadsToMark b marks s) (events b) c l q in
-          absurd (true≢false (rw (e, led) at (S s least few)))
+  event-unmarked s c least few e l =
+      is-false (marked marks (entry b s c)) (λ q.
+      let led : anyBelow (events b) (leadsToMark b marks s) ≡ true = any-below (leadsToMark b marks s) (events b) c l q in
+      true≢false (rw (e, led) at (S s least few)))
 
   none-answers : (s : ℕ) → 1 ≤ s → s ≤ states b → marked marks s ≡ false
       → (es : History) → Events (events b) es → someRequest answered b (after (bookMachine b) s es) ≡ false
-  none-answers s least few e [] all = go (someRequest answered b s) refl
-    where
-      go : (t : Bool) → someRequest answered b s ≡ t → t ≡ false
-      go false q = refl
-      go true q = absurd (false≢true (sym e ∙ M .full s least few q))
+  none-answers s least few e [] all = is-false (someRequest answered b s) (λ q. false≢true (sym e ∙ M .full s least few q))
   none-answers s least few e (c ∷ es) all =
       let l : c < events b = all 0 (omega arith) in
       let is = step-is-entry b s c least (omega arith) in
@@ -58,11 +55,7 @@ module _ (b : List ℕ) (p : BookPassed b) (marks : List ℕ) (M : Marks b marks
 
 -- ---- the state that a history leads to
 none-at : (f : ℕ → Bool) (n k : ℕ) → anyBelow n f ≡ false → k < n → f k ≡ false
-none-at f n k e l = go (f k) refl
-  where
-    go : (t : Bool) → f k ≡ t → t ≡ false
-    go false q = refl
-    go true q = absurd (false≢true (sym e ∙ any-below f n k l q))
+none-at f n k e l = is-false (f k) (λ q. false≢true (sym e ∙ any-below f n k l q))
 
 module _ (b : List ℕ) (refusal : bookRefusal b ≡ 0) (marks : List ℕ) (M : Marks b marks) (S : Settled b marks)
     (h : History) (here : possible (bookMachine b) h ≡ true) where
@@ -91,16 +84,13 @@ module _ (b : List ℕ) (refusal : bookRefusal b ≡ 0) (marks : List ℕ) (M : 
   unmarked-blocks e = (
     here,
     λ es all r l. unanswered-from b (h ++ es) r
-        (later es r ∙ none-at (answered b (after (bookMachine b) s es)) (requests b) r (none-answers b (book-passed b .0 refusal) marks M S s least few e es all) l),
+        (later es r ∙ none-at (answered b (after (bookMachine b) s es)) (requests b) r (none-answers b ok marks M S s least few e es all) l),
   )
 
   blocked-is : isBlocked b s ≡ not (marked marks s)
   blocked-is =
-      same-not (isBlocked b s) (marked marks s) (λ e. off (isBlocked b s) refl e) (λ e. blocked-to b ok h (unmarked-blocks e) .1)
-    where
-      off : (t : Bool) → isBlocked b s ≡ t → marked marks s ≡ true → t ≡ false
-      off false q e = refl
-      off true q e = absurd (marked-answers (blocked-from b ok h (here, q)) e)
+      same-not (isBlocked b s) (marked marks s) (λ e. is-false (isBlocked b s) (λ q. marked-answers (blocked-from b ok h (here, q)) e))
+      (λ e. blocked-to b ok h (unmarked-blocks e) .1)
 
 -- ---- the states found, w being the width
 module _ (b : List ℕ) (refusal : bookRefusal b ≡ 0) (marks : List ℕ) (M : Marks b marks) (S : Settled b marks)
