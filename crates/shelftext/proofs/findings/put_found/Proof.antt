@@ -1,8 +1,8 @@
 -- `put_found` meets its contract in both cases.
-use mathlib.Core.Path.{sym}
+use mathlib.Core.Path.{_≡_, sym}
 use Prim.Native.Nat.{_≤_, _<_}
 use native.Mathlib.Omega.{arith}
-use lib.ListN.{length}
+use lib.ListN.{length, take}
 use lib.Seq.{length-take-le}
 use borrow.Author.Needs.{needs}
 use Rattle.shelftext.proofs.findings.put_found.Statement.{statement}
@@ -20,19 +20,18 @@ put-requires c κs = search needs
 enum-known-finding : tie.Need-enum-known-finding
 enum-known-finding c = search needs
 
+-- the history lies within the buffer, and the request fits into a byte
+few : (c : tie.After-finding) → (c .finding .given .0 .1 .0 ≤ length (c .before .before .before .before .args .buffer .now)) × (c .finding .given .0 .0 < 256)
+few c = rw (c .finding .given .1) at (c .before .before .before .before .pre .0 .0)
+
+taken : (c : tie.After-finding) → length (take (c .finding .given .0 .1 .0) (c .before .before .before .before .args .buffer .now)) ≡ c .finding .given .0 .1 .0
+taken c = length-take-le _ _ (few c .0)
+
 slice-aggregate-put-request : tie.Need-slice-aggregate-put-request
-slice-aggregate-put-request c =
-    let k = c .before .before .before .finding .given in
-    let s = c .before .before .before .before .before .before .before in
-    let few : (k .0 .1 .0 ≤ length (s .args .buffer .now)) × (k .0 .0 < 256) = rw (k .1) at (s .pre .0 .0) in
-    sym (length-take-le (k .0 .1 .0) (s .args .buffer .now) (few .0))
+slice-aggregate-put-request c = sym (taken (c .before .before .before))
 
 put-request-requires : tie.Need-put-request-requires
-put-request-requires c κs =
-    let k = c .before .before .before .finding .given in
-    let s = c .before .before .before .before .before .before .before in
-    let few : (k .0 .1 .0 ≤ length (s .args .buffer .now)) × (k .0 .0 < 256) = rw (k .1) at (s .pre .0 .0) in
-    rw (length-take-le (k .0 .1 .0) (s .args .buffer .now) (few .0)) (omega arith)
+put-request-requires c κs = let f = c .before .before .before in rw (taken f) (omega (arith, few f))
 
 same-length : tie.Need-same-length
 same-length c = search needs
@@ -46,10 +45,8 @@ same-length-2 c = search needs
 
 returns-2 : tie.Need-returns-2
 returns-2 c =
-    let k = c .before .before .before .before .before .before .finding .given in
-    let s = c .before .before .before .before .before .before .before .before .before .before in
-    let few : (k .0 .1 .0 ≤ length (s .args .buffer .now)) × (k .0 .0 < 256) = rw (k .1) at (s .pre .0 .0) in
-    (rw (k .1) (c .before .before .put-request .ensures .0), omega (arith, length-take-le (k .0 .1 .0) (s .args .buffer .now) (few .0)))
+    let f = c .before .before .before .before .before .before in
+    (rw (f .finding .given .1) (c .before .before .put-request .ensures .0), omega (arith, few f, taken f))
 
 pub put-found-spec : {M : Type 1} → statement M
 put-found-spec =
