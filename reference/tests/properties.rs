@@ -7,7 +7,7 @@ mod plain;
 
 use std::collections::{BTreeMap, BTreeSet};
 
-use common::{entry, requests, width};
+use common::{entry, requests, situations, width};
 use plain::PlainPolicy;
 use reference::book::{self, build, Book, MOST_LENGTH};
 use reference::explore::explore;
@@ -156,11 +156,7 @@ fn states_of_a_built_book_are_told_apart() {
     let mut joined = 0;
     for (bytes, book) in built(0..300) {
         assert_eq!(classes(&book), book.states());
-        let situations = explore(&policy::read(&bytes).unwrap())
-            .unwrap()
-            .situations
-            .len();
-        joined += usize::from(situations > book.states());
+        joined += usize::from(situations(&bytes).len() > book.states());
     }
     assert!(joined > 50, "{joined}");
 }

@@ -4,7 +4,10 @@
 #![allow(dead_code)]
 
 use reference::book::{build, Book};
-use reference::hex;
+use reference::explore::explore;
+use reference::refusal::Refusal;
+use reference::situation::Situation;
+use reference::{hex, policy};
 
 /// Policy A.
 pub const A: &str = "50 4F 4C 00 01 01 01 01 03 02 | 00 01 01 00 00 00 00 \
@@ -90,6 +93,17 @@ pub fn policy_s(top: u8) -> Vec<u8> {
 /// The book of a policy that is accepted.
 pub fn book_of(policy: &[u8]) -> Book {
     build(policy).expect("an accepted policy")
+}
+
+/// The number that turns a policy down.
+pub fn refused(policy: &[u8]) -> Option<u8> {
+    build(policy).err().map(Refusal::number)
+}
+
+/// The situations that a policy reaches.
+pub fn situations(policy: &[u8]) -> Vec<Situation> {
+    let policy = policy::read(policy).unwrap();
+    explore(&policy).unwrap().situations
 }
 
 /// The bytes of the book of a policy that is accepted.
