@@ -4,6 +4,7 @@
 use std::collections::BTreeSet;
 
 use crate::book::{self, Book};
+use crate::reached::{history_of, Reached};
 use crate::refusal::Refusal;
 use crate::History;
 
@@ -14,13 +15,6 @@ pub enum Comparison {
     Same,
     /// The earliest history possible in just one of the books.
     Differ(History),
-}
-
-/// A pair of states, one of each book, that one history leads to.
-struct Pair {
-    states: (usize, usize),
-    /// The place of the pair before in the list, and the code that led here.
-    from: Option<(usize, u8)>,
 }
 
 /// Compares two books given as bytes. Numbers 12 to 14 are taken for the first
@@ -38,23 +32,21 @@ pub fn compare(first: &[u8], second: &[u8]) -> Result<Comparison, Refusal> {
 /// codes ascending.
 pub fn compare_books(first: &Book, second: &Book) -> Comparison {
     let mut met = BTreeSet::from([(1, 1)]);
-    let mut pairs = vec![Pair {
-        states: (1, 1),
-        from: None,
-    }];
+    let mut pairs = vec![Reached::start((1, 1))];
     let mut next = 0;
     while next < pairs.len() {
-        let states = pairs[next].states;
+        let states = pairs[next].state;
         for code in 0..first.frame.width() {
             match (first.entry(states.0, code), second.entry(states.1, code)) {
                 (0, 0) => {}
-                (0, _) | (_, 0) => return Comparison::Differ(history_of(&pairs, next, code as u8)),
+                (0, _) | (_, 0) => {
+                    let mut history = history_of(&pairs, next);
+                    history.push(code as u8);
+                    return Comparison::Differ(history);
+                }
                 targets => {
                     if met.insert(targets) {
-                        pairs.push(Pair {
-                            states: targets,
-                            from: Some((next, code as u8)),
-                        });
+                        pairs.push(Reached::after(next, code, targets));
                     }
                 }
             }
@@ -62,18 +54,6 @@ pub fn compare_books(first: &Book, second: &Book) -> Comparison {
         next += 1;
     }
     Comparison::Same
-}
-
-/// The codes that led to the pair at `place`, and then `last`.
-fn history_of(pairs: &[Pair], place: usize, last: u8) -> History {
-    let mut history = vec![last];
-    let mut here = &pairs[place];
-    while let Some((before, code)) = here.from {
-        history.push(code);
-        here = &pairs[before];
-    }
-    history.reverse();
-    history
 }
 
 /// Whether two byte strings, books or not, have equal bytes.

@@ -3,7 +3,7 @@
 
 use crate::book::{self, MOST_LENGTH};
 use crate::compare::{self, Comparison};
-use crate::findings::findings;
+use crate::findings::{findings, RequestFinding};
 use crate::refusal::Refusal;
 
 /// The least size of the buffer of build.
@@ -65,15 +65,13 @@ pub fn verdict(
         return Err(Refusal::Buffer);
     }
     let found = findings(&book::read(book)?);
+    let about_request = |finding: RequestFinding, buffer: &mut [u8]| RequestVerdict {
+        request: finding.request,
+        length: write(&finding.history, buffer),
+    };
     Ok(Verdict {
-        conflict: found.conflict.map(|finding| RequestVerdict {
-            request: finding.request,
-            length: write(&finding.history, conflict),
-        }),
-        missing: found.missing.map(|finding| RequestVerdict {
-            request: finding.request,
-            length: write(&finding.history, missing),
-        }),
+        conflict: found.conflict.map(|found| about_request(found, conflict)),
+        missing: found.missing.map(|found| about_request(found, missing)),
         blocked: found.blocked.map(|history| write(&history, blocked)),
     })
 }

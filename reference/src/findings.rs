@@ -2,6 +2,7 @@
 //! looked for breadth first, so that each is given with its earliest history.
 
 use crate::book::Book;
+use crate::reached::{history_of, Reached};
 use crate::History;
 
 /// A finding about one request.
@@ -22,13 +23,6 @@ pub struct Findings {
     pub missing: Option<RequestFinding>,
     /// No request is answered, now or after any list of events.
     pub blocked: Option<History>,
-}
-
-/// A state that some history leads to.
-struct Reached {
-    state: usize,
-    /// The place of the state before in the list, and the code that led here.
-    from: Option<(usize, u8)>,
 }
 
 /// Gives the findings over all histories possible in the book.
@@ -87,37 +81,20 @@ pub fn is_blocked(book: &Book, state: usize) -> bool {
 }
 
 /// The states that histories lead to, in the order of their earliest history.
-fn reached_states(book: &Book) -> Vec<Reached> {
+fn reached_states(book: &Book) -> Vec<Reached<usize>> {
     let mut met = vec![false; book.states() + 1];
     met[1] = true;
-    let mut reached = vec![Reached {
-        state: 1,
-        from: None,
-    }];
+    let mut reached = vec![Reached::start(1)];
     let mut next = 0;
     while next < reached.len() {
         for code in 0..book.frame.width() {
             let target = book.entry(reached[next].state, code);
             if target != 0 && !met[target] {
                 met[target] = true;
-                reached.push(Reached {
-                    state: target,
-                    from: Some((next, code as u8)),
-                });
+                reached.push(Reached::after(next, code, target));
             }
         }
         next += 1;
     }
     reached
-}
-
-fn history_of(reached: &[Reached], place: usize) -> History {
-    let mut history = History::new();
-    let mut here = &reached[place];
-    while let Some((before, code)) = here.from {
-        history.push(code);
-        here = &reached[before];
-    }
-    history.reverse();
-    history
 }

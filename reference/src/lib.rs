@@ -16,6 +16,7 @@ pub mod join;
 pub mod play;
 pub mod policy;
 pub mod programs;
+mod reached;
 pub mod refusal;
 pub mod shelf;
 pub mod situation;
