@@ -36,7 +36,7 @@ lines-last b s (d ∷ cs) c =
 
 -- ---- the loop's invariant: the lines of the first i steps are put, each in at most 512 bytes, and the state is the one that these steps lead to
 pub record Turn (b : List ℕ) (start : ℕ) (cs before : List ℕ) (at i state next : ℕ) (out : List ℕ) : Type 0 where
-  pub least : i ≤ length cs
+  pub within : i ≤ length cs
   pub led : state ≡ walkState b start (take i cs)
   pub stands : Stands b state
   pub put : Put before at (stepLines b start (take i cs)) out next
@@ -51,7 +51,7 @@ step-stands b s c h =
 
 module _ (b : List ℕ) (start : ℕ) (cs before : List ℕ) (at : ℕ) where
   pub begun : Stands b start → Turn b start cs before at 0 start at before
-  begun h = record { least = omega arith; led = refl; stands = h; put = nothing-put before at; short = omega arith }
+  begun h = record { within = omega arith; led = refl; stands = h; put = nothing-put before at; short = omega arith }
 
   module _ {i state next : ℕ} {out : List ℕ} (t : Turn b start cs before at i state next out) where
     pub there-stands : (code there : ℕ) → there ≡ stepState b state code → Stands b there
@@ -62,7 +62,7 @@ module _ (b : List ℕ) (start : ℕ) (cs before : List ℕ) (at : ℕ) where
         → Put out next (answerLine b number there) after end → end ≤ next + 512 → Turn b start cs before at (i + 1) there end after
     more code number there {after} {end} l ec en et p m =
         record {
-          least = omega arith;
+          within = omega arith;
           led = rw one-more is;
           stands = there-stands code there et;
           put = rw (one-more, lines-last b start (take i cs) code, ← t .led, ← is, ← en) (then (t .put) p);
@@ -77,7 +77,7 @@ module _ (b : List ℕ) (start : ℕ) (cs before : List ℕ) (at : ℕ) where
 
     pub done : length cs ≤ i → Put before at (stepLines b start cs) out next × (next ≤ at + 512 * length cs)
     done l =
-        let e : i ≡ length cs = omega (arith, t .least) in
+        let e : i ≡ length cs = omega (arith, t .within) in
         let all : take i cs ≡ cs = rw e (take-length cs) in (rw all at (t .put), omega (arith, t .short))
 
 -- ---- the opening, and the steps after it
