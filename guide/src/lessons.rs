@@ -1,6 +1,6 @@
 //! The eight lessons: a policy each, and what the error makes of it.
 
-use reference::policy::Change;
+use reference::policy::{Change, Rule};
 
 use crate::mistakes::Mistake;
 use crate::rules::{rule, table, Also, Table};
@@ -38,6 +38,11 @@ impl Lesson {
             tried: Vec::new(),
         }
     }
+
+    /// A lesson in which the policy is right and the method has the error.
+    fn by_method(name: &'static str, table: Table, mistake: Mistake) -> Lesson {
+        Lesson::new(name, table, Mistaken::Method(mistake))
+    }
 }
 
 /// The lessons in the order of the guide.
@@ -56,6 +61,11 @@ pub fn lessons() -> [Lesson; 8] {
 
 const MIDNIGHT: [&str; 1] = ["midnight"];
 
+/// A table whose one event, midnight, sets every variable to zero.
+fn daily(requests: &[&'static str], variables: &[&'static str], rules: Vec<Rule>) -> Table {
+    table(&MIDNIGHT, requests, variables, rules, Change::SetToZero)
+}
+
 /// Case A of document 01: at most two copies a day, views always.
 fn two_copies_a_day() -> Table {
     let rules = vec![
@@ -63,13 +73,7 @@ fn two_copies_a_day() -> Table {
         rule(&[1], true, 1).below(0, 2).adding(0),
         rule(&[1], false, 1).from(0, 2),
     ];
-    table(
-        &MIDNIGHT,
-        &["view", "copy"],
-        &["copies"],
-        rules,
-        Change::SetToZero,
-    )
+    daily(&["view", "copy"], &["copies"], rules)
 }
 
 /// Case E: two rules on views that meet only after two copies.
@@ -128,10 +132,8 @@ fn two_histories() -> Lesson {
         rule(&[1], true, 2).below(1, 1).adding(1),
         rule(&[1], false, 2).from(1, 1),
     ];
-    let counters = ["views", "copies"];
-    let to_zero = Change::SetToZero;
-    let one = table(&MIDNIGHT, &names, &["used"], together, to_zero);
-    let other = table(&MIDNIGHT, &names, &counters, apart, to_zero);
+    let one = daily(&names, &["used"], together);
+    let other = daily(&names, &["views", "copies"], apart);
     Lesson {
         tried: vec![vec![1, 2], vec![3, 4]],
         ..Lesson::new(
@@ -147,18 +149,13 @@ fn two_histories() -> Lesson {
 
 /// Members are accepted by a rule of their own, which does not count.
 fn lower_level() -> Lesson {
-    let names = ["member", "guest"];
     let rules = vec![
         rule(&[0], true, 1).at_level(1),
         rule(&[0, 1], true, 1).below(0, 1).adding(0),
         rule(&[0, 1], false, 1).from(0, 1),
     ];
-    let counted = table(&MIDNIGHT, &names, &["visits"], rules, Change::SetToZero);
-    Lesson::new(
-        "lower-level",
-        counted,
-        Mistaken::Method(Mistake::LowerLevelApplies),
-    )
+    let counted = daily(&["member", "guest"], &["visits"], rules);
+    Lesson::by_method("lower-level", counted, Mistake::LowerLevelApplies)
 }
 
 /// Case H: a view may be noted or not, and a noted one has no rule after it.
@@ -168,37 +165,28 @@ fn dropped_situation() -> Lesson {
         rule(&[0], true, 1).below(0, 1).adding(0),
     ];
     let noted = table(&[], &["view"], &["noted"], rules, Change::Keep);
-    Lesson::new(
-        "dropped-situation",
-        noted,
-        Mistaken::Method(Mistake::SituationDropped),
-    )
+    Lesson::by_method("dropped-situation", noted, Mistake::SituationDropped)
 }
 
 /// Case A again, in which the first two states decide alike at present.
 fn present_decisions() -> Lesson {
-    Lesson::new(
+    Lesson::by_method(
         "present-decisions",
         two_copies_a_day(),
-        Mistaken::Method(Mistake::JoinedByPresentDecisions),
+        Mistake::JoinedByPresentDecisions,
     )
 }
 
 /// Refused copies are counted too, and tested further on.
 fn bound() -> Lesson {
-    let names = ["view", "copy"];
     let rules = vec![
         rule(&[1], true, 1).below(0, 1).adding(0),
         rule(&[1], false, 1).from(0, 1).adding(0),
         rule(&[0], true, 1).below(0, 3),
         rule(&[0], false, 1).from(0, 3),
     ];
-    let asked = table(&MIDNIGHT, &names, &["asked"], rules, Change::SetToZero);
-    Lesson::new(
-        "bound",
-        asked,
-        Mistaken::Method(Mistake::BoundFromValuesReached),
-    )
+    let asked = daily(&["view", "copy"], &["asked"], rules);
+    Lesson::by_method("bound", asked, Mistake::BoundFromValuesReached)
 }
 
 /// One copy a day, which may also be refused at any time.
@@ -207,10 +195,6 @@ fn both_decisions() -> Lesson {
         rule(&[0], true, 1).below(0, 1).adding(0),
         rule(&[0], false, 1),
     ];
-    let refusable = table(&MIDNIGHT, &["copy"], &["copies"], rules, Change::SetToZero);
-    Lesson::new(
-        "both-decisions",
-        refusable,
-        Mistaken::Method(Mistake::OneSetForBothDecisions),
-    )
+    let refusable = daily(&["copy"], &["copies"], rules);
+    Lesson::by_method("both-decisions", refusable, Mistake::OneSetForBothDecisions)
 }
