@@ -23,7 +23,6 @@ static void push(struct bytes *out, unsigned byte) { out->at[out->length++] = (u
 static void draw_policy(struct bytes *p)
 {
     unsigned events = below(9), fields = 1 + below(4), variables = below(5), rules = 1 + below(below(2) ? 32 : 6), count[4], bound[4];
-    p->length = 0;
     memcpy(p->at, "POL\0\1", p->length = 5);
     push(p, events), push(p, fields), push(p, variables), push(p, rules);
     for (unsigned f = 0, left = 64; f < fields; f++, left /= count[f - 1])

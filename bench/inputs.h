@@ -5,7 +5,7 @@
 #include <stddef.h>
 #include <stdint.h>
 
-enum { POLICY_ROOM = 1024, BOOK_ROOM = 17284 };
+enum { BOOK_ROOM = 17284 };
 
 struct bytes {
     size_t length;

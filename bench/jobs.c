@@ -130,7 +130,8 @@ void measure_verdict(struct job *j, struct result *result)
     measure(j, library_verdict, plainly_verdict, NULL, result);
 }
 
-void make_automata(struct job *j)
+/* The automata of the two books of a job, made again. */
+static void make_automata(struct job *j)
 {
     openfst_free(j->first_automaton);
     openfst_free(j->second_automaton);

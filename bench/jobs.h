@@ -29,7 +29,4 @@ void measure_verdict(struct job *job, struct result *result);
 void measure_compare(struct job *job, struct result *result);
 void measure_equal_bytes(struct job *job, struct result *result);
 
-/* The automata of the two books of a job, made again. */
-void make_automata(struct job *job);
-
 #endif

@@ -12,18 +12,24 @@ static void print_time(double nanoseconds)
 
 static void print_ratio(double ratio) { printf(ratio < 10 ? " %.2f |" : " %.0f |", ratio); }
 
-static void print_row(const char *job, const char *input, const struct result *r)
+/* One of the functions of jobs.h that measure a job. */
+typedef void measurement(struct job *job, struct result *result);
+
+/* A job measured: its row. */
+static void row(const char *job, const char *input, measurement *measure, struct job *j)
 {
+    struct result r;
+    measure(j, &r);
     printf("| %s | %s |", job, input);
-    print_time(r->nanoseconds[LIBRARY]);
-    print_time(r->nanoseconds[PLAIN]);
-    print_ratio(1 / r->ratio[PLAIN]);
-    if (r->nanoseconds[OPENFST] == 0) {
-        printf(" - | - |\n");
-        return;
+    print_time(r.nanoseconds[LIBRARY]);
+    print_time(r.nanoseconds[PLAIN]);
+    print_ratio(1 / r.ratio[PLAIN]);
+    if (r.nanoseconds[OPENFST] == 0) {
+        printf(" - | - |");
+    } else {
+        print_time(r.nanoseconds[OPENFST]);
+        print_ratio(r.ratio[OPENFST]);
     }
-    print_time(r->nanoseconds[OPENFST]);
-    print_ratio(r->ratio[OPENFST]);
     printf("\n");
     fflush(stdout);
 }
@@ -38,50 +44,33 @@ static void take_book(struct job *j)
 /* All jobs of a policy: its book, the verdict on it, and the book beside itself and beside one with a late difference. */
 static void policy_rows(const char *input, struct job *j)
 {
-    struct result r;
-    measure_build(j, &r);
-    print_row("build", input, &r);
+    row("build", input, measure_build, j);
     take_book(j);
-    measure_verdict(j, &r);
-    print_row("verdict", input, &r);
+    row("verdict", input, measure_verdict, j);
     j->second = j->first;
-    measure_compare(j, &r);
-    print_row("compare, same", input, &r);
+    row("compare, same", input, measure_compare, j);
     late_difference(&j->first, &j->second);
-    measure_compare(j, &r);
-    print_row("compare, one entry differs", input, &r);
+    row("compare, one entry differs", input, measure_compare, j);
 }
 
-static void book_rows(struct job *j)
+/* Jobs on the widest books with the most states. */
+static void book_rows(const char *input, struct job *j)
 {
-    struct result r;
     late_findings(&j->first);
-    measure_verdict(j, &r);
-    print_row("verdict, late findings", "books 127 × 136", &r);
+    row("verdict, late findings", input, measure_verdict, j);
     renumbered(&j->first, &j->second);
-    measure_compare(j, &r);
-    print_row("compare, same, other numbers", "books 127 × 136", &r);
+    row("compare, same, other numbers", input, measure_compare, j);
     farthest_pair(&j->first, &j->second, 1);
-    measure_compare(j, &r);
-    print_row("compare, 253 codes, full rows", "books 127 × 136", &r);
+    row("compare, 253 codes, full rows", input, measure_compare, j);
     farthest_pair(&j->first, &j->second, 0);
-    measure_compare(j, &r);
-    print_row("compare, 253 codes, rows of 10", "books 127 × 136", &r);
+    row("compare, 253 codes, rows of 10", input, measure_compare, j);
     all_pairs(&j->first, &j->second);
-    measure_compare(j, &r);
-    print_row("compare, all pairs reached", "books 127 × 136", &r);
-}
-
-static void equal_bytes_rows(struct job *j)
-{
-    struct result r;
+    row("compare, all pairs reached", input, measure_compare, j);
     late_findings(&j->first);
     j->second = j->first;
-    measure_equal_bytes(j, &r);
-    print_row("equal bytes, equal", "books 127 × 136", &r);
+    row("equal bytes, equal", input, measure_equal_bytes, j);
     late_difference(&j->first, &j->second);
-    measure_equal_bytes(j, &r);
-    print_row("equal bytes, last differs", "books 127 × 136", &r);
+    row("equal bytes, last differs", input, measure_equal_bytes, j);
 }
 
 static void print_jobs(struct job *j)
@@ -93,26 +82,27 @@ static void print_jobs(struct job *j)
     policy_rows("40 states", j);
     many_states(&j->policy, 63, 8, 16, 4, 5);
     policy_rows("127 states, 136 codes", j);
-    book_rows(j);
-    equal_bytes_rows(j);
+    book_rows("books 127 × 136", j);
 }
 
-/* One row of a table of growth: the number that grows, then time and ratio of build, verdict and compare. */
-static void growth_row(unsigned number, struct job *j)
+/* A job measured: the library's time, and its ratio to plain C's. */
+static void growth_cells(measurement *measure, struct job *j)
 {
     struct result r;
+    measure(j, &r);
+    print_time(r.nanoseconds[LIBRARY]);
+    print_ratio(1 / r.ratio[PLAIN]);
+}
+
+/* One row of a table of growth: the number that grows, then build, verdict and compare. */
+static void growth_row(unsigned number, struct job *j)
+{
     printf("| %u |", number);
-    measure_build(j, &r);
-    print_time(r.nanoseconds[LIBRARY]);
-    print_ratio(1 / r.ratio[PLAIN]);
+    growth_cells(measure_build, j);
     take_book(j);
-    measure_verdict(j, &r);
-    print_time(r.nanoseconds[LIBRARY]);
-    print_ratio(1 / r.ratio[PLAIN]);
+    growth_cells(measure_verdict, j);
     renumbered(&j->first, &j->second);
-    measure_compare(j, &r);
-    print_time(r.nanoseconds[LIBRARY]);
-    print_ratio(1 / r.ratio[PLAIN]);
+    growth_cells(measure_compare, j);
     printf("\n");
     fflush(stdout);
 }
