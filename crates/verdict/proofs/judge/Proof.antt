@@ -16,17 +16,21 @@ rows c = passing _ _ _ _ (c .pre)
 pass : (c : tie.Start) → BookPassed (now (c .args .book))
 pass c = book-passed _ .0 (rows c .book)
 
+-- from the search back to the start
+abbrev start : tie.After-explore → tie.Start
+start c = c .before .before .before .before .before .before .before .before
+
 -- the states found are states of the book
 module _ (c : tie.After-explore) where
   few : c .explore .result ≤ 127
   few =
-      let s = c .before .before .before .before .before .before .before .before in
+      let s = start c in
       let p = pass s in
       omega (arith, p .layout .statesMost, holds-few (now (s .args .book)) p (c .before .before .before .width .result) (omega (arith, c .before .before .before .width .ensures)) 1 (omega arith) (p .layout .statesSome) _ _ _ (c .explore .ensures))
 
-  inside : StatesIn (now (c .before .before .before .before .before .before .before .before .args .book)) (c .explore .result) (c .explore .last .1 .1 .1 .1 .0)
+  inside : StatesIn (now (start c .args .book)) (c .explore .result) (c .explore .last .1 .1 .1 .1 .0)
   inside =
-      let s = c .before .before .before .before .before .before .before .before in
+      let s = start c in
       let p = pass s in
       holds-inside (now (s .args .book)) p (c .before .before .before .width .result) (omega (arith, c .before .before .before .width .ensures)) 1 (omega arith) (p .layout .statesSome) _ _ _ (c .explore .ensures)
 
@@ -53,8 +57,7 @@ slice-aggregate-find-2 c = search needs
 find-requires : tie.Need-find-requires
 find-requires c κs =
     let e = c .before .before .before .before .before in
-    let s = c .before .before .before .before .before .before .before .before .before .before .before .before .before in
-    ((pass s, c .before .before .before .before .before .before .before .before .width .ensures, inside e), ((few e, search needs, search needs, rows s .longConflict), e .explore .ensures .falls))
+    ((pass (start e), e .before .before .before .width .ensures, inside e), ((few e, search needs, search needs, rows (start e) .longConflict), e .explore .ensures .falls))
 
 slice-aggregate-find-3 : tie.Need-slice-aggregate-find-3
 slice-aggregate-find-3 c = search needs
@@ -65,8 +68,7 @@ slice-aggregate-find-4 c = search needs
 find-requires-2 : tie.Need-find-requires-2
 find-requires-2 c κs =
     let e = c .before .before .before .before .before .before .before .before .before .before .before in
-    let s = c .before .before .before .before .before .before .before .before .before .before .before .before .before .before .before .before .before .before .before in
-    ((pass s, c .before .before .before .before .before .before .before .before .before .before .before .before .before .before .width .ensures, inside e), ((few e, search needs, search needs, rows s .longMissing), e .explore .ensures .falls))
+    ((pass (start e), e .before .before .before .width .ensures, inside e), ((few e, search needs, search needs, rows (start e) .longMissing), e .explore .ensures .falls))
 
 slice-aggregate-find-blocked : tie.Need-slice-aggregate-find-blocked
 slice-aggregate-find-blocked c = search needs
@@ -77,8 +79,7 @@ slice-aggregate-find-blocked-2 c = search needs
 find-blocked-requires : tie.Need-find-blocked-requires
 find-blocked-requires c κs =
     let e = c .before .before .before .before .before .before .before .before .before .before .before .before .before .before .before .before .before in
-    let s = c .before .before .before .before .before .before .before .before .before .before .before .before .before .before .before .before .before .before .before .before .before .before .before .before .before in
-    ((rows s .book, c .before .before .before .before .before .before .before .before .before .before .before .before .before .before .before .before .before .before .before .before .width .ensures, e .explore .ensures), (search needs, search needs, rows s .longBlocked))
+    ((rows (start e) .book, e .before .before .before .width .ensures, e .explore .ensures), (search needs, search needs, rows (start e) .longBlocked))
 
 same-length : tie.Need-same-length
 same-length c = search needs
@@ -91,12 +92,13 @@ same-length-3 c = search needs
 
 returns : tie.Need-returns
 returns c =
-    let s = c .before .before .before .before .before .before .before .before .before .before .before .before .before .before .before .before .before .before .before .before .before .before .before .before .before .before .before .before in
+    let e = c .before .before .before .before .before .before .before .before .before .before .before .before .before .before .before .before .before .before .before .before in
+    let w = e .before .before .before .width .ensures in
     let x = c .before .before .before .before .before .before .before .before .before .before .before .before .before .before .find .ensures in
     let y = c .before .before .before .before .before .before .before .before .find2 .ensures in
     let z = c .before .before .find-blocked .ensures in (
-      answer-are _ _ _ _ (s .pre) _ (c .before .before .before .before .before .before .before .before .before .before .before .before .before .before .before .before .before .before .before .before .before .before .before .width .ensures) _ _ _ (c .before .before .before .before .before .before .before .before .before .before .before .before .before .before .before .before .before .before .before .before .explore .ensures) _ _ _ (x .0) (y .0) (z .0),
-      buffers-are _ _ _ _ (s .pre) _ (c .before .before .before .before .before .before .before .before .before .before .before .before .before .before .before .before .before .before .before .before .before .before .before .width .ensures) _ _ _ (c .before .before .before .before .before .before .before .before .before .before .before .before .before .before .before .before .before .before .before .before .explore .ensures) _ _ _ (x .1) (y .1) (z .1),
+      answer-are _ _ _ _ (start e .pre) _ w _ _ _ (e .explore .ensures) _ _ _ (x .0) (y .0) (z .0),
+      buffers-are _ _ _ _ (start e .pre) _ w _ _ _ (e .explore .ensures) _ _ _ (x .1) (y .1) (z .1),
     )
 
 pub judge-spec : {M : Type 1} → statement M

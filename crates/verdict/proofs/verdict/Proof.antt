@@ -17,7 +17,7 @@ same-length-3 : tie.Need-same-length-3
 same-length-3 c = search needs
 
 returns : tie.Need-returns
-returns c = let a = c .before .before .before .before .before .before .before .before .before .args in answer-refused _ _ _ _ _ (c .before .refused-by .ensures) (c .if1 .taken)
+returns c = answer-refused _ _ _ _ _ (c .before .refused-by .ensures) (c .if1 .taken)
 
 judge-requires : tie.Need-judge-requires
 judge-requires c κs = search needs
