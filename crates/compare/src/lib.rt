@@ -5,11 +5,7 @@ ghost use lib.ListN.{length};
 ghost use Rattle.definitions.specs.Answer.{given, written, historyBytes};
 ghost use Rattle.definitions.specs.Compare.{comparison, compareRefusal, compareAnswer, compareBuffer};
 ghost use Rattle.compare.specs.Answer.{comparedAnswer};
-ghost use Rattle.compare.specs.Search.{Traced, differenceAt, spotted, Writable};
-
-mod labels;
-mod pairs;
-
+ghost use Rattle.pairs.specs.Search.{Traced, differenceAt, spotted, Writable};
 use book::same_frame;
 use book::states;
 use book::width;
@@ -69,7 +65,7 @@ fn compare_passed(first: &[u8], second: &[u8], history: &mut [u8]) -> Compared
     let mut trail = [0u8; 512];
     let mut label = [0u8; 256];
     let n = states(first);
-    let numbers = n + states(second) + 1;
+    let numbers = n + states(second) + 2;
     let spot = first_difference(
         first,
         second,

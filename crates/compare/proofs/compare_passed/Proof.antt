@@ -7,7 +7,7 @@ use lib.ListN.{replicate}
 use lib.Seq.{length-take-le}
 use Rattle.definitions.specs.Book.{width, states}
 use Rattle.definitions.proofs.Accepted.{BookLayout}
-use Rattle.compare.specs.Search.{Books}
+use Rattle.pairs.specs.Search.{Books}
 use Rattle.compare.proofs.Answering.{Passing, passing, passing-books}
 use borrow.Author.Needs.{needs}
 use Rattle.compare.proofs.compare_passed.Statement.{statement}
@@ -60,7 +60,7 @@ slice-aggregate-first-difference-3 c = sym (length-take-le _ _ (omega (arith, fe
 first-difference-requires : tie.Need-first-difference-requires
 first-difference-requires c κs =
     let start = c .before .before .before .before .before .before .before .before .before in
-    let size = length-take-le {A = ℕ} (c .before .before .before .before .before .states .result + c .before .before .before .before .states2 .result + 1) (replicate 256 0)
+    let size = length-take-le {A = ℕ} (c .before .before .before .before .before .states .result + c .before .before .before .before .states2 .result + 2) (replicate 256 0)
     (omega (arith, few-numbers (c .before .before .before .before))) in
     record {
       books = books start _ _ (c .before .before .before .width .ensures) (c .before .before .before .before .before .states .ensures);

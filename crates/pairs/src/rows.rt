@@ -1,0 +1,92 @@
+// Two rows read side by side: the first place where their entries lead to states of two labels.
+ghost use mathlib.Core.Path.{_≡_};
+ghost use Prim.Native.Nat.{_+_, _≤_};
+ghost use lib.ListN.{length};
+ghost use Rattle.pairs.specs.Rows.{wordAt, Rows, Alike, FirstFailing};
+use automaton::wide;
+
+// Eight bytes from place k on as one number, the first lowest, which the compiler makes one load of.
+fn word(row: &[u8], k: usize) -> usize
+    requires { ⌜ k + 8 ≤ length (now row) ⌝ }
+    ensures { λ r. ⌜ r ≡ wordAt (now (row .entry)) k ⌝ }
+{
+    wide(row[k])
+        + 0x100 * wide(row[k + 1])
+        + 0x10000 * wide(row[k + 2])
+        + 0x1000000 * wide(row[k + 3])
+        + 0x100000000 * wide(row[k + 4])
+        + 0x10000000000 * wide(row[k + 5])
+        + 0x1000000000000 * wide(row[k + 6])
+        + 0x100000000000000 * wide(row[k + 7])
+}
+
+// The first place from `from` on, below `end`, at which the labels are two; `end` if there is none.
+fn unlike_before(
+    one: &[u8],
+    other: &[u8],
+    width: usize,
+    base: usize,
+    label: &[u8],
+    from: usize,
+    end: usize,
+) -> usize
+    requires { ⌜ Rows (now one) (now other) width base (now label) ⌝ }
+    requires { ⌜ (from ≤ end) × (end ≤ width) ⌝ }
+    ensures { λ r. ⌜ FirstFailing (Alike (now (one .entry)) (now (other .entry)) base (now (label .entry))) from end r ⌝ }
+{
+    let mut k = from;
+    while k < end {
+        let x = wide(one[k]);
+        let y = wide(other[k]);
+        if label[x] != label[base + y] {
+            return k;
+        }
+        k += 1;
+    }
+    end
+}
+
+// The same for the eight places from k on. Where all their entries are 0 they are passed over at once.
+fn unlike_of_eight(
+    one: &[u8],
+    other: &[u8],
+    width: usize,
+    base: usize,
+    label: &[u8],
+    k: usize,
+) -> usize
+    requires { ⌜ Rows (now one) (now other) width base (now label) ⌝ }
+    requires { ⌜ k + 8 ≤ width ⌝ }
+    ensures { λ r. ⌜ FirstFailing (Alike (now (one .entry)) (now (other .entry)) base (now (label .entry))) k (k + 8) r ⌝ }
+{
+    if word(one, k) == 0 {
+        if word(other, k) == 0 {
+            return k + 8;
+        }
+    }
+    unlike_before(one, other, width, base, label, k, k + 8)
+}
+
+// The first place from `from` on at which the labels are two; the width if there is none.
+pub fn first_unlike(
+    one: &[u8],
+    other: &[u8],
+    width: usize,
+    base: usize,
+    label: &[u8],
+    from: usize,
+) -> usize
+    requires { ⌜ Rows (now one) (now other) width base (now label) ⌝ }
+    requires { ⌜ (from ≤ width) × (width ≤ 136) ⌝ }
+    ensures { λ r. ⌜ FirstFailing (Alike (now (one .entry)) (now (other .entry)) base (now (label .entry))) from width r ⌝ }
+{
+    let mut k = from;
+    while k + 8 <= width {
+        let r = unlike_of_eight(one, other, width, base, label, k);
+        if r < k + 8 {
+            return r;
+        }
+        k += 8;
+    }
+    unlike_before(one, other, width, base, label, k, width)
+}
