@@ -1,4 +1,4 @@
--- The search over two books in bytes: it begins, each look at a code keeps what holds, and at the end the comparison is known.
+-- The search over two books in bytes: it begins, each code keeps what holds, and at the end the comparison is known.
 use mathlib.Core.Path.{_≡_, refl, ap, sym, _∙_}
 use mathlib.Core.Logic.{_⊎_, inl, inr}
 use mathlib.Core.List.{List, [], _∷_, _++_, map}

@@ -76,7 +76,7 @@ fn next_code(
 }
 
 // Such a code c of pair i, of m pairs: where both states can take it the labels of the states that it leads to are merged, and the pair of them is queued.
-fn look(
+fn try_code(
     first: &[u8],
     second: &[u8],
     width: usize,
@@ -127,7 +127,7 @@ fn try_codes(
     let mut count = m;
     let mut c = next_code(first, second, width, n, i, 0, pairs, label);
     while c < width {
-        let tried = look(first, second, width, n, count, i, c, pairs, trail, label);
+        let tried = try_code(first, second, width, n, count, i, c, pairs, trail, label);
         match tried {
             Tried::Parts(code) => return Tried::Parts(code),
             Tried::Pairs(more) => count = more,

@@ -27,8 +27,8 @@ loop-holds c =
     let found = c .next-code .ensures in
     (passed-over _ _ _ _ _ _ _ _ _ (c .before .before .before .before .before .before .before .before .pre .1) _ _ (c .before .before .before .before .before .before .before .before .pre .0) found, c .before .before .before .before .before .before .before .before .pre .1, found .most, found .fails, record { samePairs = refl; sameTrail = refl; sameLabel = refl })
 
-look-requires : tie.Need-look-requires Inv-loop μ-loop
-look-requires c κs = let inv = c .before .before .before .before .loop .inv in (inv .0, ((inv .1, c .before .before .before .loop-test .taken), inv .3 (c .before .before .before .loop-test .taken)))
+try-code-requires : tie.Need-try-code-requires Inv-loop μ-loop
+try-code-requires c κs = let inv = c .before .before .before .before .loop .inv in (inv .0, ((inv .1, c .before .before .before .loop-test .taken), inv .3 (c .before .before .before .loop-test .taken)))
 
 enum-known-tried : tie.Need-enum-known-tried Inv-loop μ-loop
 enum-known-tried c = search needs
@@ -43,7 +43,7 @@ same-length-3 : tie.Need-same-length-3 Inv-loop μ-loop
 same-length-3 c = search needs
 
 returns : tie.Need-returns Inv-loop μ-loop
-returns c = rw (c .before .tried .given .1) at (c .before .before .before .before .before .before .before .before .before .look .ensures)
+returns c = rw (c .before .tried .given .1) at (c .before .before .before .before .before .before .before .before .before .try-code .ensures)
 
 enum-known-tried-2 : tie.Need-enum-known-tried-2 Inv-loop μ-loop
 enum-known-tried-2 c = search needs
@@ -53,7 +53,7 @@ add-next-code c = search needs
 
 next-code-requires-2 : tie.Need-next-code-requires-2 Inv-loop μ-loop
 next-code-requires-2 c κs =
-    let next = rw (c .before .before .before .tried2 .given .1) at (c .before .before .before .before .before .before .before .before .before .before .before .look .ensures) in
+    let next = rw (c .before .before .before .tried2 .given .1) at (c .before .before .before .before .before .before .before .before .before .before .before .try-code .ensures) in
     (readable _ _ _ _ _ _ _ _ _ _ (next .0) (next .1), omega (arith, c .before .before .before .before .before .before .before .before .before .before .before .before .before .before .before .loop-test .taken))
 
 loop-less : tie.Need-loop-less Inv-loop μ-loop
@@ -61,7 +61,7 @@ loop-less c = omega (arith, c .next-code2 .ensures .least, c .before .before .be
 
 loop-again : tie.Need-loop-again Inv-loop μ-loop
 loop-again c =
-    let next = rw (c .before .before .before .before .tried2 .given .1) at (c .before .before .before .before .before .before .before .before .before .before .before .before .look .ensures) in
+    let next = rw (c .before .before .before .before .tried2 .given .1) at (c .before .before .before .before .before .before .before .before .before .before .before .before .try-code .ensures) in
     let found = c .next-code2 .ensures in
     (passed-over _ _ _ _ _ _ _ _ _ (next .1) _ _ (next .0) found, next .1, found .most, found .fails, search needs)
 
@@ -88,7 +88,7 @@ try-codes-spec =
     μ-loop
     next-code-requires
     loop-holds
-    look-requires
+    try-code-requires
     enum-known-tried
     same-length
     same-length-2

@@ -1,4 +1,4 @@
--- `look` meets its contract: each of its three answers is a turn of the search.
+-- `try_code` meets its contract: each of its three answers is a turn of the search.
 use mathlib.Core.Path.{_≡_, ap, _∙_}
 use Prim.Native.Nat.{ℕ, _+_, _≤_}
 use native.Mathlib.Omega.{arith}
@@ -9,8 +9,8 @@ use Rattle.pairs.specs.Labels.{labelAt}
 use Rattle.pairs.specs.Search.{Books}
 use Rattle.pairs.proofs.Searching.{left-state, right-state, few-pairs, low-left, low-right, turned-second, turned-first, turned-new}
 use borrow.Author.Needs.{needs}
-use Rattle.pairs.proofs.look.Statement.{statement}
-use Rattle.pairs.proofs.look.Tie as tie
+use Rattle.pairs.proofs.try_code.Statement.{statement}
+use Rattle.pairs.proofs.try_code.Tie as tie
 
 mul-wide : tie.Need-mul-wide
 mul-wide c = search needs
@@ -137,8 +137,8 @@ returns-3 c =
       omega (arith, pre .1 .0 .0),
     )
 
-pub look-spec : {M : Type 1} → statement M
-look-spec =
+pub try-code-spec : {M : Type 1} → statement M
+try-code-spec =
     tie.close
     (tie.spec
     mul-wide
