@@ -17,7 +17,6 @@ use borrow.Author.Needs.{needs}
 use Rattle.build.proofs.build_in.Statement.{statement}
 use Rattle.build.proofs.build_in.Tie as tie
 
--- HELPERS
 -- the table of images is the policy's
 images-of : (c : tie.After-explore) → ImagesOf (c .before .before .before .before .before .before .before .before .before .before .before .before .before .before .before .before .before .before .args .policy .now) (c .before .before .before .before .before .before .fill-images .last .1 .1 .0)
 images-of c v k = c .before .before .before .before .before .before .fill-images .ensures .entry v k
@@ -47,20 +46,15 @@ book-of c =
       b .1 ∙ ap (λ (w : ℕ). written (bookBytes (frame (a .policy .now)) (minimal w (rowsIn (x .last .1 .1 .1 .1 .0) (x .result) w))) (a .book .now)) e,
     )
 
--- END
-
--- src/lib.rt:74:9
 of-requires : tie.Need-of-requires
 of-requires c κs = search needs
 
--- src/lib.rt:76:5
 fill-images-requires : tie.Need-fill-images-requires
 fill-images-requires c κs =
     let p = c .before .before .before .before .before .before .before .before .before .before .before in
     let fits = images-fit (p .args .policy .now) (p .pre .0 .0) in
     (p .pre .0 .0, c .before .of .ensures, omega (arith, p .pre .1 .0))
 
--- src/lib.rt:77:9
 explore-requires : tie.Need-explore-requires
 explore-requires c κs =
     let p = c .before .before .before .before .before .before .before .before .before .before .before .before .before .before .before .before .before in
@@ -68,19 +62,15 @@ explore-requires c κs =
     rw (c .before .before .before .before .before .before .before .of .ensures)
     ((valuations-low (p .args .policy .now) (p .pre .0 .0), width-low (p .args .policy .now) (p .pre .0 .0), omega (arith, c .before .before .before .before .before .fill-images .kept .1 .1 .0, p .pre .1 .0)), (p .pre .1 .0 .1, omega (arith, p .pre .1 .0)))
 
--- src/lib.rt:79:9
 same-length : tie.Need-same-length
 same-length c = search needs
 
--- src/lib.rt:79:9
 same-length-2 : tie.Need-same-length-2
 same-length-2 c = search needs
 
--- src/lib.rt:79:9
 same-length-3 : tie.Need-same-length-3
 same-length-3 c = search needs
 
--- src/lib.rt:79:9
 returns : tie.Need-returns
 returns c =
     let p = c .before .before .before .before .before .before .before .before .before .before .before .before .before .before .before .before .before .before .before .before .before .before .before in
@@ -88,7 +78,6 @@ returns c =
     let over = rw (situations-are (p .args .policy .now) (c .before .before .before .before .before .before .before .before .before .before .before .fill-images .last .1 .1 .0) (images-of r)) at (explored-over _ refl (fits r) (reaches r) (c .if1 .taken)) in
     build-refused (p .args .policy .now) (p .args .book .now) 11 (λ e. omega arith) (refused-by-11 (p .args .policy .now) (p .args .book .now) (p .pre .0 .1) (p .pre .0 .0) over)
 
--- src/lib.rt:81:20
 write-joined-requires : tie.Need-write-joined-requires
 write-joined-requires c κs =
     let p = c .before .before .before .before .before .before .before .before .before .before .before .before .before .before .before .before .before .before .before .before .before .before .before .before .before .before .before .before .before in
@@ -100,39 +89,30 @@ write-joined-requires c κs =
       (header-read (p .args .policy .now) (p .pre .0 .0), (p .pre .1 .1 .0, p .pre .1 .1 .1)),
     )
 
--- src/lib.rt:56:1
 same-length-4 : tie.Need-same-length-4
 same-length-4 c = search needs
 
--- src/lib.rt:56:1
 same-length-5 : tie.Need-same-length-5
 same-length-5 c = search needs
 
--- src/lib.rt:56:1
 same-length-6 : tie.Need-same-length-6
 same-length-6 c = search needs
 
--- src/lib.rt:56:1
 same-length-7 : tie.Need-same-length-7
 same-length-7 c = search needs
 
--- src/lib.rt:56:1
 same-length-8 : tie.Need-same-length-8
 same-length-8 c = search needs
 
--- src/lib.rt:56:1
 same-length-9 : tie.Need-same-length-9
 same-length-9 c = search needs
 
--- src/lib.rt:56:1
 same-length-10 : tie.Need-same-length-10
 same-length-10 c = search needs
 
--- src/lib.rt:56:1
 same-length-11 : tie.Need-same-length-11
 same-length-11 c = search needs
 
--- src/lib.rt:56:1
 returns-2 : tie.Need-returns-2
 returns-2 c =
     let p = c .before .before .before .before .before .before .before .before .before .before .before .before .before .before .before .before .before .before .before .before .before .before .before .before .before .before .before .before .before .before .before .before .before .before .before .before .before .before .before .before in

@@ -14,7 +14,6 @@ use borrow.Author.Needs.{needs}
 use Rattle.build.proofs.write_joined.Statement.{statement}
 use Rattle.build.proofs.write_joined.Tie as tie
 
--- HELPERS
 -- the classes of alike states, n + 1 of them
 size : (c : tie.After-refine-all) → length (c .refine-all .last .1 .1 .0) ≡ c .before .before .before .before .before .before .before .before .before .before .args .n + 1
 size c = c .refine-all .kept .1 .1 .0 ∙ length-take-le (c .before .before .before .before .before .before .before .before .before .before .args .n + 1) (c .before .before .before .before .before .before .before .before .before .before .args .classes .now) (omega (arith, c .before .before .before .before .before .before .before .before .before .before .pre))
@@ -41,29 +40,21 @@ whole-numbers c =
     take-at (c .number .last .1 .1 .1 .1 .0) (drop (c .before .before .before .before .before .before .before .before .before .before .before .before .before .before .before .before .before .before .args .n + 1) (c .before .before .before .before .before .before .before .before .before .before .before .before .before .before .before .before .before .before .args .numbers .now)) (c .before .before .before .before .before .before .before .before .before .before .before .before .before .before .before .before .before .before .args .n + 1)
     (numbers-length (classed-here (c .before .before .before .before .before .before .before .before)) (numbered c) ∙ size (c .before .before .before .before .before .before .before .before))
 
--- END
-
--- src/lib.rt:37:16
 add-size : tie.Need-add-size
 add-size c = search needs
 
--- src/lib.rt:38:32
 slice-relend-prefix-refine-all : tie.Need-slice-relend-prefix-refine-all
 slice-relend-prefix-refine-all c = search needs
 
--- src/lib.rt:38:32
 slice-aggregate-refine-all : tie.Need-slice-aggregate-refine-all
 slice-aggregate-refine-all c = sym (length-take-le (c .before .before .before .before .before .before .before .before .args .n + 1) (c .before .before .before .before .before .before .before .before .args .classes .now) (omega arith))
 
--- src/lib.rt:38:54
 slice-relend-prefix-refine-all-2 : tie.Need-slice-relend-prefix-refine-all-2
 slice-relend-prefix-refine-all-2 c = search needs
 
--- src/lib.rt:38:54
 slice-aggregate-refine-all-2 : tie.Need-slice-aggregate-refine-all-2
 slice-aggregate-refine-all-2 c = sym (length-take-le (c .before .before .before .before .before .before .before .before .before .args .n + 1) (c .before .before .before .before .before .before .before .before .before .args .next .now) (omega arith))
 
--- src/lib.rt:38:5
 refine-all-requires : tie.Need-refine-all-requires
 refine-all-requires c κs =
     let p = c .before .before .before .before .before .before .before .before .before in
@@ -72,23 +63,18 @@ refine-all-requires c κs =
     let left : length (take (p .args .n + 1) (p .args .classes .now)) - 1 ≡ p .args .n = omega arith in
     (rw left (p .pre .0 .0), omega arith, other ∙ sym one)
 
--- src/lib.rt:39:36
 slice-reshare-prefix-number : tie.Need-slice-reshare-prefix-number
 slice-reshare-prefix-number c = search needs
 
--- src/lib.rt:39:36
 slice-aggregate-number : tie.Need-slice-aggregate-number
 slice-aggregate-number c = sym (ap length (whole (c .before .before .before .before .before)) ∙ size (c .before .before .before .before .before))
 
--- src/lib.rt:39:61
 slice-relend-prefix-number : tie.Need-slice-relend-prefix-number
 slice-relend-prefix-number c = search needs
 
--- src/lib.rt:39:61
 slice-aggregate-number-2 : tie.Need-slice-aggregate-number-2
 slice-aggregate-number-2 c = sym (length-take-le (c .before .before .before .before .before .before .before .before .before .before .before .before .before .before .before .before .before .args .n + 1) (c .before .before .before .before .before .before .before .before .before .before .before .before .before .before .before .before .before .args .numbers .now) (omega arith))
 
--- src/lib.rt:39:9
 number-requires : tie.Need-number-requires
 number-requires c κs =
     let p = c .before .before .before .before .before .before .before .before .before .before .before .before .before .before .before .before .before in
@@ -100,25 +86,20 @@ number-requires c κs =
           ∙ ap (λ (k : ℕ). replicate k 0) (sym (size r)),
     )
 
--- src/lib.rt:40:45
 slice-reshare-prefix-write-book : tie.Need-slice-reshare-prefix-write-book
 slice-reshare-prefix-write-book c =
     let low = order-low (classed-here (c .before .before .before .before .before .before .before .before .before .before .before .before .before)) (numbered (c .before .before .before .before .before)) in
     omega (arith, c .before .before .before .before .before .number .kept .1 .1 .1 .0, c .before .before .before .before .before .before .before .before .before .before .before .before .before .before .before .before .before .before .before .before .before .before .before .pre)
 
--- src/lib.rt:40:45
 slice-aggregate-write-book : tie.Need-slice-aggregate-write-book
 slice-aggregate-write-book c = sym (order-length (classed-here (c .before .before .before .before .before .before .before .before .before .before .before .before .before .before)) (numbered (c .before .before .before .before .before .before)))
 
--- src/lib.rt:40:58
 slice-reshare-prefix-write-book-2 : tie.Need-slice-reshare-prefix-write-book-2
 slice-reshare-prefix-write-book-2 c = search needs
 
--- src/lib.rt:40:58
 slice-aggregate-write-book-2 : tie.Need-slice-aggregate-write-book-2
 slice-aggregate-write-book-2 c = sym (ap length (whole-numbers (c .before .before .before .before .before .before .before)) ∙ numbers-length (classed-here (c .before .before .before .before .before .before .before .before .before .before .before .before .before .before .before)) (numbered (c .before .before .before .before .before .before .before)) ∙ size (c .before .before .before .before .before .before .before .before .before .before .before .before .before .before .before))
 
--- src/lib.rt:40:5
 write-book-requires : tie.Need-write-book-requires
 write-book-requires c κs =
     let p = c .before .before .before .before .before .before .before .before .before .before .before .before .before .before .before .before .before .before .before .before .before .before .before .before .before in
@@ -129,27 +110,21 @@ write-book-requires c κs =
       ((rows-fit k n (length (p .args .book .now)) (p .pre .0 .2), rw (order-length k n) (omega (arith, order-low k n, p .pre .0 .1))), p .pre .1 .0),
     )
 
--- src/lib.rt:19:1
 same-length : tie.Need-same-length
 same-length c = search needs
 
--- src/lib.rt:19:1
 same-length-2 : tie.Need-same-length-2
 same-length-2 c = search needs
 
--- src/lib.rt:19:1
 same-length-3 : tie.Need-same-length-3
 same-length-3 c = search needs
 
--- src/lib.rt:19:1
 same-length-4 : tie.Need-same-length-4
 same-length-4 c = search needs
 
--- src/lib.rt:19:1
 same-length-5 : tie.Need-same-length-5
 same-length-5 c = search needs
 
--- src/lib.rt:19:1
 returns : tie.Need-returns
 returns c =
     let a = c .before .before .before .before .before .before .before .before .before .before .before .before .before .before .before .before .before .before .before .before .before .before .before .before .before .before .before .before .args in

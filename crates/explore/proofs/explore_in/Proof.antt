@@ -22,7 +22,6 @@ Inv-loop images valuations w found₀ raw₀ next₀ hints₀ n₀ s₀ found ra
 abbrev μ-loop : tie.MeasureT-loop
 μ-loop images valuations w found₀ raw₀ next₀ hints₀ n₀ s₀ found raw next hints n s = 128 - s
 
--- HELPERS
 -- what is reached from a start that is a state
 all : (m : Machine) → reached m 127 ≡ allReached m
 unfolding allReached
@@ -31,8 +30,6 @@ all m = refl
 sound : (m : Machine) → isState (m .start) ≡ true → Sound m (allReached m)
 unfolding allReached
 sound m = reached-sound m 127
-
--- END
 
 slice-write-found : tie.Need-slice-write-found Inv-loop μ-loop
 slice-write-found c = search needs

@@ -7,15 +7,12 @@ use borrow.Author.Needs.{needs}
 use Rattle.explore.proofs.note.Statement.{statement}
 use Rattle.explore.proofs.note.Tie as tie
 
--- HELPERS
 -- the set is not empty
 some : (c : tie.Else1) → 0 < c .before .before .before .before .args .x .set
 some c =
     let x = c .before .before .before .before .args .x .set in
     let none = eqb-false x 0 (sym (c .before .is-empty .ensures) ∙ c .if1 .left) in
     omega arith
-
--- END
 
 is-empty-requires : tie.Need-is-empty-requires
 is-empty-requires c κs = search needs

@@ -17,14 +17,11 @@ Inv-loop images valuations w situation next₀ v₀ next v = (v ≤ valuations) 
 abbrev μ-loop : tie.MeasureT-loop
 μ-loop images valuations w situation next₀ v₀ next v = valuations - v
 
--- HELPERS
 -- there is a set for each code
 long : (c : tie.At-loop Inv-loop μ-loop) → length (c .loop .next) ≡ c .before .before .before .before .before .before .before .args .w
 long c =
     let a = c .before .before .before .before .before .before .before .args in
     ap length (c .loop .inv .1) ∙ length-list-below (imageOfSetIn (a .images .now) (c .loop .v) (a .w) (a .situation .set)) (a .w)
-
--- END
 
 clear-requires : tie.Need-clear-requires Inv-loop μ-loop
 clear-requires c κs = search needs

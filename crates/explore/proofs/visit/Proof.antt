@@ -19,7 +19,6 @@ Inv-loop images valuations w found₀ n set row₀ next hints₀ k₀ c₀ found
 abbrev μ-loop : tie.MeasureT-loop
 μ-loop images valuations w found₀ n set row₀ next hints₀ k₀ c₀ found row hints k c = w - c
 
--- HELPERS
 -- there is a set for each code
 long : (c : tie.At-loop Inv-loop μ-loop) → length (c .before .before .before .step-all .last .1 .1 .1 .1 .0) ≡ c .before .before .before .before .before .before .before .before .before .before .args .w
 long c =
@@ -41,8 +40,6 @@ led c =
 -- its number is a byte
 low : (c : tie.After-note Inv-loop μ-loop) → c .note .result ≤ 128
 low c = tried-low (c .before .before .before .before .before .loop .inv .0) (c .before .before .before .before .loop-test .taken) (led (c .before .before .before .before)) (c .note .ensures .0) (c .note .ensures .1)
-
--- END
 
 step-all-requires : tie.Need-step-all-requires Inv-loop μ-loop
 step-all-requires c κs = search needs

@@ -17,13 +17,9 @@ Inv-loop raw w classes order₀ numbers₀ count₀ i₀ order numbers count i =
 abbrev μ-loop : tie.MeasureT-loop
 μ-loop raw w classes order₀ numbers₀ count₀ i₀ order numbers count i = 128 - i
 
--- HELPERS
 long : (c : tie.Start Inv-loop μ-loop) → length (c .args .numbers .now) ≡ length (c .args .classes .now)
 long c = ap length (c .pre .2) ∙ length-replicate (length (c .args .classes .now)) 0
 
--- END
-
--- src/number.rt:67:9
 note-class-requires : tie.Need-note-class-requires Inv-loop μ-loop
 note-class-requires c κs =
     let p = c .before .before .before .before .before .before in
@@ -34,7 +30,6 @@ note-class-requires c κs =
       p .pre .2 ∙ numbers-none (length (p .args .classes .now)) ∙ ap (λ (size : ℕ). numbersBelow size []) (sym same),
     )
 
--- src/number.rt:69:5
 loop-holds : tie.Need-loop-holds Inv-loop μ-loop
 loop-holds c =
     let p = c .before .before .before .before .before .before .before .before .before .before .before in
@@ -42,15 +37,12 @@ loop-holds c =
     ordering-begun (p .pre .0) (p .args .order .now) (n .last .0) (n .last .1 .0) (n .result) (p .pre .1) (n .ensures .0) (n .ensures .1 .0)
     (rw (long p) at (n .ensures .1 .1))
 
--- src/number.rt:70:22
 slice-read-wide : tie.Need-slice-read-wide Inv-loop μ-loop
 slice-read-wide c = omega (arith, searched-room (c .before .before .loop .inv .search), c .before .before .loop .inv .room, ordering-few (c .before .before .loop .inv))
 
--- src/number.rt:70:13
 wide-requires : tie.Need-wide-requires Inv-loop μ-loop
 wide-requires c κs = search needs
 
--- src/number.rt:71:9
 visit-class-requires : tie.Need-visit-class-requires Inv-loop μ-loop
 visit-class-requires c κs =
     let p = c .before .before .before .before .before .before .before .before .before .before .before .before .before .before .before .before .before in
@@ -61,33 +53,26 @@ visit-class-requires c κs =
     rw (c .before .before .wide .ensures .0)
     ((p .pre .0, searched-state (l .inv .search) b, ordering-inside (l .inv) b), ((omega arith, ordering-few (l .inv), l .inv .are), ordering-low (l .inv) b))
 
--- src/number.rt:72:9
 add-i : tie.Need-add-i Inv-loop μ-loop
 add-i c = search needs
 
--- src/number.rt:69:5
 loop-less : tie.Need-loop-less Inv-loop μ-loop
 loop-less c = omega (arith, ordering-few (c .before .before .before .before .before .before .before .before .before .before .loop .inv))
 
--- src/number.rt:69:5
 loop-again : tie.Need-loop-again Inv-loop μ-loop
 loop-again c =
     let l = c .before .before .before .before .before .before .before .before .before .before .loop in
     ordering-turn (l .inv) (c .before .before .before .before .before .before .before .before .before .loop-test .taken) (rw (c .before .before .before .before .before .before .before .wide .ensures .0) at (c .before .before .before .before .visit-class .ensures))
 
--- src/number.rt:74:5
 spread-requires : tie.Need-spread-requires Inv-loop μ-loop
 spread-requires c κs = (names-first (c .before .before .before .before .before .before .before .before .before .before .before .before .before .before .pre .0), ordering-length (c .before .before .loop .inv))
 
--- src/number.rt:63:1
 same-length : tie.Need-same-length Inv-loop μ-loop
 same-length c = searched-room (c .before .before .before .before .before .loop .inv .search) ∙ c .before .before .before .before .before .before .before .before .before .before .note-class .kept .0
 
--- src/number.rt:63:1
 same-length-2 : tie.Need-same-length-2 Inv-loop μ-loop
 same-length-2 c = c .before .before .spread .kept .1 .0 ∙ ordering-length (c .before .before .before .before .before .loop .inv) ∙ sym (long (c .before .before .before .before .before .before .before .before .before .before .before .before .before .before .before .before .before))
 
--- src/number.rt:63:1
 returns : tie.Need-returns Inv-loop μ-loop
 returns c =
     let p = c .before .before .before .before .before .before .before .before .before .before .before .before .before .before .before .before .before in

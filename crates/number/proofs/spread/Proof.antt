@@ -13,43 +13,33 @@ Inv-loop classes numbers₀ s₀ numbers s = Spreading classes numbers₀ number
 abbrev μ-loop : tie.MeasureT-loop
 μ-loop classes numbers₀ s₀ numbers s = length classes - s
 
--- src/number.rt:55:5
 loop-holds : tie.Need-loop-holds Inv-loop μ-loop
 loop-holds c = spreading-begun (c .before .before .pre .0) (c .before .before .pre .1)
 
--- src/number.rt:56:35
 shared-slice-read-wide : tie.Need-shared-slice-read-wide Inv-loop μ-loop
 shared-slice-read-wide c = search needs
 
--- src/number.rt:56:30
 wide-requires : tie.Need-wide-requires Inv-loop μ-loop
 wide-requires c κs = search needs
 
--- src/number.rt:56:22
 slice-read-numbers : tie.Need-slice-read-numbers Inv-loop μ-loop
 slice-read-numbers c = rw (c .before .wide .ensures .0) (spreading-low (c .before .before .before .before .loop .inv) (c .before .before .before .loop-test .taken))
 
--- src/number.rt:56:9
 slice-write-numbers : tie.Need-slice-write-numbers Inv-loop μ-loop
 slice-write-numbers c = omega (arith, c .before .before .before .before .loop .inv .long)
 
--- src/number.rt:57:9
 add-s : tie.Need-add-s Inv-loop μ-loop
 add-s c = search needs
 
--- src/number.rt:55:5
 loop-less : tie.Need-loop-less Inv-loop μ-loop
 loop-less c = search needs
 
--- src/number.rt:55:5
 loop-again : tie.Need-loop-again Inv-loop μ-loop
 loop-again c = rw (c .before .wide .ensures .0) (spreading-turn (c .before .before .before .before .loop .inv) (c .before .before .before .loop-test .taken))
 
--- src/number.rt:50:1
 same-length : tie.Need-same-length Inv-loop μ-loop
 same-length c = c .before .loop .inv .long ∙ sym (c .before .before .before .before .pre .1)
 
--- src/number.rt:50:1
 returns : tie.Need-returns Inv-loop μ-loop
 returns c = spreading-done (c .before .loop .inv) (c .loop-test .left)
 

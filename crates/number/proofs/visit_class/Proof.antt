@@ -18,7 +18,6 @@ Inv-loop raw w classes order₀ numbers₀ count s at k₀ c₀ order numbers k 
 abbrev μ-loop : tie.MeasureT-loop
 μ-loop raw w classes order₀ numbers₀ count s at k₀ c₀ order numbers k c = w - c
 
--- HELPERS
 -- row s lies within, and its entries are states
 row : (c : tie.Start Inv-loop μ-loop) → (c .args .s - 1) * c .args .w + c .args .w ≤ length (c .args .raw .now)
 row c = state-row (c .pre .0 .0 .table) (c .args .s) (c .pre .0 .1) (omega (arith, c .pre .0 .2))
@@ -37,17 +36,12 @@ led c =
     let p = c .before .before .before .before .before .before .before .before .before .before .before .before in
     code c ∙ joined-step (p .pre .0 .0) (p .args .s) (c .before .before .before .before .before .before .before .loop .c) (p .pre .0 .1) (p .pre .0 .2) (c .before .before .before .before .before .before .loop-test .taken)
 
--- END
-
--- src/number.rt:38:15
 sub-at : tie.Need-sub-at Inv-loop μ-loop
 sub-at c = search needs
 
--- src/number.rt:38:14
 mul-at : tie.Need-mul-at Inv-loop μ-loop
 mul-at c = omega (arith, row (c .before .before .before .before))
 
--- src/number.rt:41:5
 loop-holds : tie.Need-loop-holds Inv-loop μ-loop
 loop-holds c =
     let p = c .before .before .before .before in
@@ -55,33 +49,27 @@ loop-holds c =
     classes-begun (joinedIn (a .raw .now) (a .w) (a .classes .now)) (a .s) (a .count) (a .order .now) (a .numbers .now) (length (a .classes .now))
     (p .pre .1 .0 .0) (p .pre .1 .0 .1) (p .pre .1 .1) (p .pre .1 .0 .2)
 
--- src/number.rt:42:65
 add-wide : tie.Need-add-wide Inv-loop μ-loop
 add-wide c =
     let h = row (c .before .before .before .before .before .before .before .before) in
     omega arith
 
--- src/number.rt:42:61
 shared-slice-read-wide : tie.Need-shared-slice-read-wide Inv-loop μ-loop
 shared-slice-read-wide c =
     let h = row (c .before .before .before .before .before .before .before .before .before) in
     omega arith
 
--- src/number.rt:42:56
 wide-requires : tie.Need-wide-requires Inv-loop μ-loop
 wide-requires c κs = search needs
 
--- src/number.rt:42:48
 shared-slice-read-wide-2 : tie.Need-shared-slice-read-wide-2 Inv-loop μ-loop
 shared-slice-read-wide-2 c =
     let h = entry (c .before .before .before .before .before .before .before .before .before .before .before) (c .before .before .before .before .before .before .loop .c) (c .before .before .before .before .before .loop-test .taken) in
     omega (arith, c .before .wide .ensures .0, c .before .before .before .before .before .before .before .before .before .before .before .pre .0 .2)
 
--- src/number.rt:42:43
 wide-requires-2 : tie.Need-wide-requires-2 Inv-loop μ-loop
 wide-requires-2 c κs = search needs
 
--- src/number.rt:42:9
 note-class-requires : tie.Need-note-class-requires Inv-loop μ-loop
 note-class-requires c κs =
     let p = c .before .before .before .before .before .before .before .before .before .before .before .before in
@@ -96,15 +84,12 @@ note-class-requires c κs =
       classes-numbers (l .inv),
     )
 
--- src/number.rt:43:9
 add-c : tie.Need-add-c Inv-loop μ-loop
 add-c c = search needs
 
--- src/number.rt:41:5
 loop-less : tie.Need-loop-less Inv-loop μ-loop
 loop-less c = search needs
 
--- src/number.rt:41:5
 loop-again : tie.Need-loop-again Inv-loop μ-loop
 loop-again c =
     let p = c .before .before .before .before .before .before .before .before .before .before .before .before .before .before .before .before .before in
@@ -113,15 +98,12 @@ loop-again c =
     classes-turn (l .inv) (c .before .before .before .before .before .before .before .before .before .before .before .loop-test .taken) (led (c .before .before .before .before .before)) (n .ensures .0) (n .ensures .1 .0)
     (n .ensures .1 .1)
 
--- src/number.rt:30:1
 same-length : tie.Need-same-length Inv-loop μ-loop
 same-length c = classes-room (c .before .loop .inv)
 
--- src/number.rt:30:1
 same-length-2 : tie.Need-same-length-2 Inv-loop μ-loop
 same-length-2 c = classes-length (c .before .loop .inv) ∙ sym (ap length (c .before .before .before .before .before .before .pre .1 .0 .2) ∙ length-list-below _ _)
 
--- src/number.rt:30:1
 returns : tie.Need-returns Inv-loop μ-loop
 returns c = classes-done (c .before .loop .inv) (c .loop-test .left)
 

@@ -3,30 +3,24 @@ use borrow.Author.Needs.{needs}
 use Rattle.write.proofs.present_count.Statement.{statement}
 use Rattle.write.proofs.present_count.Tie as tie
 
--- src/write.rt:46:17
 shared-slice-read-wide : tie.Need-shared-slice-read-wide
 shared-slice-read-wide c = search needs
 
--- src/write.rt:46:12
 wide-requires : tie.Need-wide-requires
 wide-requires c κs = search needs
 
--- src/write.rt:47:23
 add-result : tie.Need-add-result
 add-result c = search needs
 
--- src/write.rt:47:16
 shared-slice-read-result : tie.Need-shared-slice-read-result
 shared-slice-read-result c = search needs
 
--- src/write.rt:47:9
 returns : tie.Need-returns
 returns c =
     let p = c .before .before .before .before .before in
     let l = rw (c .before .before .wide .ensures .0) at (c .before .if1 .taken) in
     simp (lt-ltb _ _ l)
 
--- src/write.rt:42:1
 returns-2 : tie.Need-returns-2
 returns-2 c =
     let l = rw (c .before .wide .ensures .0) at (c .if1 .left) in

@@ -3,27 +3,21 @@ use borrow.Author.Needs.{needs}
 use Rattle.write.proofs.write_book.Statement.{statement}
 use Rattle.write.proofs.write_book.Tie as tie
 
--- src/write.rt:81:5
 write-header-requires : tie.Need-write-header-requires
 write-header-requires c κs = search needs
 
--- src/write.rt:82:5
 write-rows-requires : tie.Need-write-rows-requires
 write-rows-requires c κs = search needs
 
--- src/write.rt:83:10
 mul-result : tie.Need-mul-result
 mul-result c = search needs
 
--- src/write.rt:83:5
 add-result : tie.Need-add-result
 add-result c = search needs
 
--- src/write.rt:73:1
 same-length : tie.Need-same-length
 same-length c = search needs
 
--- src/write.rt:73:1
 returns : tie.Need-returns
 returns c =
     let p = c .before .before .before .before .before .before .before .before .before .before .before .before .before in

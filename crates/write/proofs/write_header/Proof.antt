@@ -5,87 +5,66 @@ use borrow.Author.Needs.{needs}
 use Rattle.write.proofs.write_header.Statement.{statement}
 use Rattle.write.proofs.write_header.Tie as tie
 
--- src/write.rt:58:5
 slice-write-book : tie.Need-slice-write-book
 slice-write-book c = search needs
 
--- src/write.rt:59:5
 slice-write-book-2 : tie.Need-slice-write-book-2
 slice-write-book-2 c = simp length-set (omega arith)
 
--- src/write.rt:60:5
 slice-write-book-3 : tie.Need-slice-write-book-3
 slice-write-book-3 c = simp length-set (omega arith)
 
--- src/write.rt:61:5
 slice-write-book-4 : tie.Need-slice-write-book-4
 slice-write-book-4 c = simp length-set (omega arith)
 
--- src/write.rt:62:5
 slice-write-book-5 : tie.Need-slice-write-book-5
 slice-write-book-5 c = simp length-set (omega arith)
 
--- src/write.rt:63:15
 shared-slice-read-book : tie.Need-shared-slice-read-book
 shared-slice-read-book c = search needs
 
--- src/write.rt:63:5
 slice-write-book-6 : tie.Need-slice-write-book-6
 slice-write-book-6 c = simp length-set (omega arith)
 
--- src/write.rt:64:15
 shared-slice-read-book-2 : tie.Need-shared-slice-read-book-2
 shared-slice-read-book-2 c = search needs
 
--- src/write.rt:64:5
 slice-write-book-7 : tie.Need-slice-write-book-7
 slice-write-book-7 c = simp length-set (omega arith)
 
--- src/write.rt:65:15
 present-count-requires : tie.Need-present-count-requires
 present-count-requires c κs = search needs
 
--- src/write.rt:65:5
 slice-write-book-8 : tie.Need-slice-write-book-8
 slice-write-book-8 c = simp length-set (omega arith)
 
--- src/write.rt:66:15
 present-count-requires-2 : tie.Need-present-count-requires-2
 present-count-requires-2 c κs = search needs
 
--- src/write.rt:66:5
 slice-write-book-9 : tie.Need-slice-write-book-9
 slice-write-book-9 c = simp length-set (omega arith)
 
--- src/write.rt:67:15
 present-count-requires-3 : tie.Need-present-count-requires-3
 present-count-requires-3 c κs = search needs
 
--- src/write.rt:67:5
 slice-write-book-10 : tie.Need-slice-write-book-10
 slice-write-book-10 c = simp length-set (omega arith)
 
--- src/write.rt:68:16
 present-count-requires-4 : tie.Need-present-count-requires-4
 present-count-requires-4 c κs = search needs
 
--- src/write.rt:68:5
 slice-write-book-11 : tie.Need-slice-write-book-11
 slice-write-book-11 c = simp length-set (omega arith)
 
--- src/write.rt:69:16
 cast-book : tie.Need-cast-book
 cast-book c = search needs
 
--- src/write.rt:69:5
 slice-write-book-12 : tie.Need-slice-write-book-12
 slice-write-book-12 c = simp length-set (omega arith)
 
--- src/write.rt:53:1
 same-length : tie.Need-same-length
 same-length c = simp length-set
 
--- src/write.rt:53:1
 returns : tie.Need-returns
 returns c =
     let p = c .before .before .before .before .before .before .before .before in

@@ -17,7 +17,6 @@ Inv-loop row₀ raw w numbers c₀ row c = (c ≤ w) × (row ≡ written (looked
 abbrev μ-loop : tie.MeasureT-loop
 μ-loop row₀ raw w numbers c₀ row c = w - c
 
--- HELPERS
 -- the buffer keeps its length
 size : (c : tie.At-loop Inv-loop μ-loop) → length (c .loop .row) ≡ length (c .before .before .before .before .args .row .now)
 size c =
@@ -25,37 +24,27 @@ size c =
     let long = looked-length (a .numbers .now) (a .raw .now) (c .loop .c) (omega (arith, c .before .before .before .before .pre)) in
     ap length (c .loop .inv .1) ∙ length-written (lookedUp (a .numbers .now) (c .loop .c) (a .raw .now)) (a .row .now) (omega (arith, c .before .before .before .before .pre))
 
--- END
-
--- src/write.rt:20:5
 loop-holds : tie.Need-loop-holds Inv-loop μ-loop
 loop-holds c = (search needs, refl)
 
--- src/write.rt:21:31
 shared-slice-read-wide : tie.Need-shared-slice-read-wide Inv-loop μ-loop
 shared-slice-read-wide c = search needs
 
--- src/write.rt:21:26
 wide-requires : tie.Need-wide-requires Inv-loop μ-loop
 wide-requires c κs = search needs
 
--- src/write.rt:21:18
 shared-slice-read-row : tie.Need-shared-slice-read-row Inv-loop μ-loop
 shared-slice-read-row c = rw (c .before .wide .ensures .0) (c .before .before .before .before .before .before .before .before .pre .2 (c .before .before .before .before .loop .c) (c .before .before .before .loop-test .taken))
 
--- src/write.rt:21:9
 slice-write-row : tie.Need-slice-write-row Inv-loop μ-loop
 slice-write-row c = omega (arith, size (c .before .before .before .before))
 
--- src/write.rt:22:9
 add-c : tie.Need-add-c Inv-loop μ-loop
 add-c c = search needs
 
--- src/write.rt:20:5
 loop-less : tie.Need-loop-less Inv-loop μ-loop
 loop-less c = search needs
 
--- src/write.rt:20:5
 loop-again : tie.Need-loop-again Inv-loop μ-loop
 loop-again c =
     let p = c .before .before .before .before .before .before .before .before in
@@ -63,11 +52,9 @@ loop-again c =
     let l = c .before .before .before .before .loop in
     (omega arith, row-turn (a .numbers .now) (a .raw .now) (a .row .now) (l .row) (l .c) _ (omega arith) (omega arith) (l .inv .1) (ap (byte (a .numbers .now)) (c .before .wide .ensures .0)))
 
--- src/write.rt:15:1
 same-length : tie.Need-same-length Inv-loop μ-loop
 same-length c = size (c .before)
 
--- src/write.rt:15:1
 returns : tie.Need-returns Inv-loop μ-loop
 returns c =
     let e : c .before .loop .c ≡ c .before .before .before .before .before .args .w = omega arith in

@@ -21,7 +21,6 @@ Inv-loop book₀ raw w order numbers i₀ book i = (i ≤ length order) × (book
 abbrev μ-loop : tie.MeasureT-loop
 μ-loop book₀ raw w order numbers i₀ book i = length order - i
 
--- HELPERS
 -- row i lies within the book, which keeps its length
 fits : (c : tie.In-loop Inv-loop μ-loop) → 12 + (c .before .loop .i * c .before .before .before .before .before .before .args .w + c .before .before .before .before .before .before .args .w) ≤ length (c .before .before .before .before .before .before .args .book .now)
 fits c =
@@ -49,61 +48,45 @@ within c =
     let a = p .args in
     rw (c .wide .ensures .0) (order-row (a .raw .now) (a .w) (a .numbers .now) (a .order .now) (p .pre .0 .0) (p .pre .0 .1) (c .before .before .before .loop .i) (c .before .before .loop-test .taken))
 
--- END
-
--- src/write.rt:33:5
 loop-holds : tie.Need-loop-holds Inv-loop μ-loop
 loop-holds c = (search needs, sym (laid-none 12 _))
 
--- src/write.rt:34:23
 mul-at : tie.Need-mul-at Inv-loop μ-loop
 mul-at c = omega (arith, fits (c))
 
--- src/write.rt:34:18
 add-at : tie.Need-add-at Inv-loop μ-loop
 add-at c = omega (arith, fits (c))
 
--- src/write.rt:35:26
 shared-slice-read-wide : tie.Need-shared-slice-read-wide Inv-loop μ-loop
 shared-slice-read-wide c = search needs
 
--- src/write.rt:35:21
 wide-requires : tie.Need-wide-requires Inv-loop μ-loop
 wide-requires c κs = search needs
 
--- src/write.rt:35:21
 sub-from : tie.Need-sub-from Inv-loop μ-loop
 sub-from c = omega (arith, state (c) .0)
 
--- src/write.rt:35:20
 mul-from : tie.Need-mul-from Inv-loop μ-loop
 mul-from c = omega (arith, within (c))
 
--- src/write.rt:36:19
 sub-write-row : tie.Need-sub-write-row Inv-loop μ-loop
 sub-write-row c = omega (arith, fits (c .before .before), size (c .before .before .before))
 
--- src/write.rt:36:19
 part-write-row-start : tie.Need-part-write-row-start Inv-loop μ-loop
 part-write-row-start c = omega (arith, fits (c .before .before), size (c .before .before .before))
 
--- src/write.rt:36:19
 part-write-row-end : tie.Need-part-write-row-end Inv-loop μ-loop
 part-write-row-end c = search needs
 
--- src/write.rt:36:36
 sub-write-row-2 : tie.Need-sub-write-row-2 Inv-loop μ-loop
 sub-write-row-2 c = omega (arith, within (c .before))
 
--- src/write.rt:36:36
 part-write-row-start-2 : tie.Need-part-write-row-start-2 Inv-loop μ-loop
 part-write-row-start-2 c = omega (arith, within (c .before))
 
--- src/write.rt:36:36
 part-write-row-end-2 : tie.Need-part-write-row-end-2 Inv-loop μ-loop
 part-write-row-end-2 c = search needs
 
--- src/write.rt:36:9
 write-row-requires : tie.Need-write-row-requires Inv-loop μ-loop
 write-row-requires c κs =
     let p = c .before .before .before .before .before .before .before .before .before .before in
@@ -114,15 +97,12 @@ write-row-requires c κs =
     simp part-is-drop
     (rw length-drop (omega arith), rw length-drop (omega arith), state-entries (p .pre .0 .0) (c .before .before .wide .result) (s .0) (omega (arith, s .1)) _ (omega (arith, s .1)))
 
--- src/write.rt:37:9
 add-i : tie.Need-add-i Inv-loop μ-loop
 add-i c = search needs
 
--- src/write.rt:33:5
 loop-less : tie.Need-loop-less Inv-loop μ-loop
 loop-less c = search needs
 
--- src/write.rt:33:5
 loop-again : tie.Need-loop-again Inv-loop μ-loop
 loop-again c =
     let p = c .before .before .before .before .before .before .before .before .before .before .before .before .before in
@@ -139,11 +119,9 @@ loop-again c =
           (drop (12 + l .i * a .w) (l .book)) (c .before .before .before .before .before .before .before .loop-test .taken) (c .before .before .before .before .before .wide .ensures .0) (simp part-is-drop at (r .ensures))),
     )
 
--- src/write.rt:27:1
 same-length : tie.Need-same-length Inv-loop μ-loop
 same-length c = size (c .before)
 
--- src/write.rt:27:1
 returns : tie.Need-returns Inv-loop μ-loop
 returns c =
     let p = c .before .before .before .before .before .before in
