@@ -13,22 +13,22 @@ use Rattle.automaton.specs.Below.{placeOf}
 use Rattle.automaton.proofs.Counting.{and-true}
 use Rattle.definitions.specs.Answer.{written}
 use Rattle.definitions.proofs.BookSteps.{is-state}
-use Rattle.tables.specs.States.{numberAmong, withState}
-use Rattle.tables.proofs.States.{number-place, number-low, with-few, with-none, with-known, with-new, number-new}
+use Rattle.tables.specs.States.{numberAmong, addState}
+use Rattle.tables.proofs.States.{number-place, number-low, added-few, added-none, added-known, added-new, number-new}
 use Rattle.explore.specs.Reaches.{Once, isNumber}
 use Rattle.tables.proofs.Buffers.{written-take, written-next}
 
 module _ (found : List ℕ) (n x : ℕ) (room : n < length found) where
   -- r is the number of x once it is put in, and more is the array then
   abbrev Noted : ℕ → List ℕ → Type 0
-  Noted r more = (r ≡ numberAmong (withState (take n found) x) x) × (more ≡ written (withState (take n found) x) found)
+  Noted r more = (r ≡ numberAmong (addState (take n found) x) x) × (more ≡ written (addState (take n found) x) found)
 
   pub note-none : x ≡ 0 → Noted 0 found
-  note-none e = (rw e, rw (e, with-none (take n found)) (sym (written-take n found (omega arith))))
+  note-none e = (rw e, rw (e, added-none (take n found)) (sym (written-take n found (omega arith))))
 
   pub note-known : (r : ℕ) → numberAmong (take n found) x ≡ r → 0 < r → Noted r found
   note-known r is l =
-      let same : withState (take n found) x ≡ take n found = with-known (take n found) x (is-state (numberAmong (take n found) x) (omega arith)) in
+      let same : addState (take n found) x ≡ take n found = added-known (take n found) x (is-state (numberAmong (take n found) x) (omega arith)) in
       (rw same (sym is), rw same (sym (written-take n found (omega arith))))
 
   -- a hint that is right
@@ -43,8 +43,8 @@ module _ (found : List ℕ) (n x : ℕ) (room : n < length found) where
       note-known (suc k) (rw here at (once k place)) (omega arith)
 
   -- its number is a byte
-  pub noted-low : (r : ℕ) → r ≡ numberAmong (withState (take n found) x) x → r ≤ n + 1
-  noted-low r e = omega (arith, e, number-low (withState (take n found) x) x, with-few (take n found) x, length-take-le n found (omega arith))
+  pub noted-low : (r : ℕ) → r ≡ numberAmong (addState (take n found) x) x → r ≤ n + 1
+  noted-low r e = omega (arith, e, number-low (addState (take n found) x) x, added-few (take n found) x, length-take-le n found (omega arith))
 
   module _ (state : 0 < x) where
     number : numberAmong (take n found) x ≡ placeOf (eqb x) (take n found)
@@ -57,7 +57,7 @@ module _ (found : List ℕ) (n x : ℕ) (room : n < length found) where
     note-new l =
         let none : numberAmong (take n found) x ≡ 0 = omega (arith, number) in
         let long : length (take n found) ≡ n = length-take-le n found (omega arith) in
-        let more : withState (take n found) x ≡ take n found ++ (x ∷ []) = with-new (take n found) x (is-state x state) none in (
+        let more : addState (take n found) x ≡ take n found ++ (x ∷ []) = added-new (take n found) x (is-state x state) none in (
           rw (more, number-new (take n found) x (is-state x state) none, long, add-one),
           rw more (ap (λ (l : List ℕ). set l n x) (sym (written-take n found (omega arith))) ∙ written-next (take n found) found n x long room),
         )

@@ -11,7 +11,7 @@ use lib.Seq.{getD-at}
 use Rattle.automaton.specs.Machine.{Machine, step, isState}
 use Rattle.automaton.proofs.Counting.{below-suc, place-append}
 use Rattle.tables.specs.States.{numberAmong, afterCodes}
-use Rattle.tables.proofs.States.{states-bare, number-place, number-new, with-cases, after-more}
+use Rattle.tables.proofs.States.{states-bare, number-place, number-new, added-cases, after-more}
 use Rattle.explore.specs.Reaches.{Once}
 
 -- a list that grows at its end keeps the numbers
@@ -41,5 +41,5 @@ pub once-after : (m : Machine) (s c : ℕ) (l : List ℕ) → Once l → Once (a
 once-after m s zero l once = rw (states-bare l) once
 once-after m s (suc c) l once =
     rw (after-more m s c l)
-    (with-cases (afterCodes m s c l) Once (step m s c) (λ _. once-after m s c l once) (λ _ _. once-after m s c l once)
+    (added-cases (afterCodes m s c l) Once (step m s c) (λ _. once-after m s c l once) (λ _ _. once-after m s c l once)
     (once-end (afterCodes m s c l) (step m s c) (once-after m s c l once)))

@@ -11,9 +11,9 @@ use Rattle.automaton.specs.Machine.{Machine, step}
 use Rattle.automaton.specs.Explore.{visit}
 use Rattle.automaton.proofs.Counting.{length-list-below}
 use Rattle.definitions.specs.Answer.{written}
-use Rattle.tables.specs.States.{states, bare, numberAmong, withState, afterCodes, rowAmong}
+use Rattle.tables.specs.States.{states, bare, numberAmong, addState, afterCodes, rowAmong}
 use Rattle.explore.specs.Reaches.{Once, Visited}
-use Rattle.tables.proofs.States.{states-bare, number-states, number-low, with-length, with-few, after-more, after-grows}
+use Rattle.tables.proofs.States.{states-bare, number-states, number-low, added-length, added-few, after-more, after-grows}
 use Rattle.automaton.proofs.Congruence.{list-below-same}
 use Rattle.automaton.proofs.Turns.{visit-grows}
 use Rattle.explore.proofs.Once.{once-after}
@@ -76,8 +76,8 @@ module _ {m : Machine} {s : ℕ} {l found₀ row₀ found row : List ℕ} {k c :
 
   -- code c is tried: it leads to x, whose number is then r
   module _ {x r : ℕ} {found′ : List ℕ} (b : c < m .width) (ex : x ≡ step m s c)
-      (er : r ≡ numberAmong (withState (take k found) x) x) (ef : found′ ≡ written (withState (take k found) x) found) where
-    more : withState (take k found) x ≡ afterCodes m s (suc c) l
+      (er : r ≡ numberAmong (addState (take k found) x) x) (ef : found′ ≡ written (addState (take k found) x) found) where
+    more : addState (take k found) x ≡ afterCodes m s (suc c) l
     more = rw (old, ex) (sym (after-more m s c l))
 
     number : r ≡ numberAfter m s l c
@@ -86,13 +86,13 @@ module _ {m : Machine} {s : ℕ} {l found₀ row₀ found row : List ℕ} {k c :
     tried-count : max k r ≡ length (afterCodes m s (suc c) l)
     tried-count =
         let long : length (take k found) ≡ k = ap length old ∙ sym (now .count) in
-        omega (arith, with-length (take k found) x, ap length more)
+        omega (arith, added-length (take k found) x, ap length more)
 
     -- at most one more than before, so the number is a byte
     pub tried-low : r ≤ 128
     tried-low =
         let long : length (take k found) ≡ k = ap length old ∙ sym (now .count) in
-        omega (arith, with-few (take k found) x, number-low (withState (take k found) x) x, now .few)
+        omega (arith, added-few (take k found) x, number-low (addState (take k found) x) x, now .few)
 
     pub trying-turn : max k r ≤ 127 → Trying m s l found₀ row₀ found′ (set row c r) (max k r) (c + 1)
     trying-turn few = record {

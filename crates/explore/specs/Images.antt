@@ -15,7 +15,7 @@ imageAt images w c v = getD images (v * w + c) 0
 abbrev pub withImageAt : List ℕ → ℕ → ℕ → ℕ → ℕ → ℕ → ℕ
 withImageAt images w set c v found = let more = union found (imageAt images w c v) in cond (bit set v) more found
 
--- the set that code c leads to from a set of the valuations below V
+-- the set that code c leads to from a set, whose valuations are below `valuations`
 abbrev pub imageOfSetIn : List ℕ → ℕ → ℕ → ℕ → ℕ → ℕ
 imageOfSetIn images valuations w set c = foldBelow valuations emptySet (withImageAt images w set c)
 

@@ -6,7 +6,7 @@ ghost use lib.ListN.{length, take};
 ghost use Rattle.automaton.specs.Below.{placeOf};
 ghost use Rattle.definitions.specs.Answer.{written};
 ghost use Rattle.explore.specs.Images.{emptySets, unions, withImages, imagesOfSet, imagesMachine};
-ghost use Rattle.tables.specs.States.{numberAmong, withState};
+ghost use Rattle.tables.specs.States.{numberAmong, addState};
 ghost use Rattle.explore.specs.Reaches.{Once, isNumber, Visited, Reaches};
 use automaton::wide;
 use situation::Situation;
@@ -90,8 +90,8 @@ fn is_number(found: &[u64], n: usize, x: u64, number: usize) -> bool
 // The number of a state among the first `n` found, where a new one is put in after them.
 fn enter(found: &mut [u64], n: usize, x: u64) -> usize
     requires { ⌜ (n < length (now found)) × (0 < x) ⌝ }
-    ensures { λ r. ⌜ r ≡ numberAmong (withState (take n (now (found .entry))) x) x ⌝ }
-    ensures { λ r. ⌜ now (found .exit) ≡ written (withState (take n (now (found .entry))) x) (now (found .entry)) ⌝ }
+    ensures { λ r. ⌜ r ≡ numberAmong (addState (take n (now (found .entry))) x) x ⌝ }
+    ensures { λ r. ⌜ now (found .exit) ≡ written (addState (take n (now (found .entry))) x) (now (found .entry)) ⌝ }
 {
     let number = place(found, n, x);
     if 0 < number {
@@ -105,8 +105,8 @@ fn enter(found: &mut [u64], n: usize, x: u64) -> usize
 // hint is tried, and where it is wrong the search is made. Nothing is said of what it holds afterwards.
 fn note(found: &mut [u64], n: usize, x: Situation, hints: &mut [u8]) -> usize
     requires { ⌜ (n < length (now found)) × (n ≤ 127) × (256 ≤ length (now hints)) × Once (take n (now found)) ⌝ }
-    ensures { λ r. ⌜ r ≡ numberAmong (withState (take n (now (found .entry))) (x .set)) (x .set) ⌝ }
-    ensures { λ r. ⌜ now (found .exit) ≡ written (withState (take n (now (found .entry))) (x .set)) (now (found .entry)) ⌝ }
+    ensures { λ r. ⌜ r ≡ numberAmong (addState (take n (now (found .entry))) (x .set)) (x .set) ⌝ }
+    ensures { λ r. ⌜ now (found .exit) ≡ written (addState (take n (now (found .entry))) (x .set)) (now (found .entry)) ⌝ }
 {
     if x.is_empty() {
         return 0;

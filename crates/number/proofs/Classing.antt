@@ -16,7 +16,7 @@ use Rattle.automaton.proofs.Settled.{classes-named}
 use Rattle.automaton.proofs.Joined.{joined-step-class}
 use Rattle.definitions.specs.Answer.{written}
 use Rattle.definitions.specs.Bytes.{byte}
-use Rattle.tables.specs.States.{numberAmong, withState, afterCodes}
+use Rattle.tables.specs.States.{numberAmong, addState, afterCodes}
 use Rattle.tables.specs.Classes.{rowsWith}
 use Rattle.number.specs.Numbers.{Joined, joinedIn, classesReached, numbersBelow, VisitedClass}
 use Rattle.tables.proofs.States.{states-bare, after-more, after-grows}
@@ -105,11 +105,11 @@ module _ {m : Machine} {s : ℕ} {l order₀ : List ℕ} {size : ℕ} {order num
   pub classes-numbers : numbers ≡ numbersBelow (length numbers) (take k order)
   classes-numbers = rw (classes-length, old) (now .are)
 
-  pub classes-turn : {x r : ℕ} {order′ numbers′ : List ℕ} → c < m .width → x ≡ step m s c → r ≡ length (withState (take k order) x)
-      → order′ ≡ written (withState (take k order) x) order → numbers′ ≡ numbersBelow (length numbers) (withState (take k order) x)
+  pub classes-turn : {x r : ℕ} {order′ numbers′ : List ℕ} → c < m .width → x ≡ step m s c → r ≡ length (addState (take k order) x)
+      → order′ ≡ written (addState (take k order) x) order → numbers′ ≡ numbersBelow (length numbers) (addState (take k order) x)
       → TryingClasses m s l order₀ size order′ numbers′ r (c + 1)
   classes-turn {x} b ex er eo en =
-      let more : withState (take k order) x ≡ afterCodes m s (suc c) l = rw (old, ex) (sym (after-more m s c l)) in
+      let more : addState (take k order) x ≡ afterCodes m s (suc c) l = rw (old, ex) (sym (after-more m s c l)) in
       record {
         room = now .room;
         few = now .few;

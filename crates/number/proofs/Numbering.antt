@@ -13,9 +13,9 @@ use Rattle.automaton.specs.Below.{oneOn, placeOf}
 use Rattle.automaton.specs.Machine.{isState}
 use Rattle.automaton.proofs.Counting.{length-list-below, getD-list-below}
 use Rattle.definitions.specs.Answer.{written}
-use Rattle.tables.specs.States.{numberAmong, withState}
+use Rattle.tables.specs.States.{numberAmong, addState}
 use Rattle.number.specs.Numbers.{numbersBelow}
-use Rattle.tables.proofs.States.{number-place, with-none, with-known, with-new, number-new}
+use Rattle.tables.proofs.States.{number-place, added-none, added-known, added-new, number-new}
 use Rattle.definitions.proofs.BookSteps.{is-state}
 use Rattle.tables.proofs.Buffers.{written-take, written-next}
 
@@ -74,25 +74,25 @@ module _ (order numbers : List ℕ) (count x : ℕ) (room : count < length order
   -- r are found then, with these arrays
   abbrev NotedClass : ℕ → List ℕ → List ℕ → Type 0
   NotedClass r order′ numbers′ =
-      (r ≡ length (withState l x)) × ((order′ ≡ written (withState l x) order) × (numbers′ ≡ numbersBelow k (withState l x)))
+      (r ≡ length (addState l x)) × ((order′ ≡ written (addState l x) order) × (numbers′ ≡ numbersBelow k (addState l x)))
 
-  stays : withState l x ≡ l → NotedClass count order numbers
+  stays : addState l x ≡ l → NotedClass count order numbers
   stays e = (sym (ap length e ∙ long), (sym (ap (λ (l : List ℕ). written l order) e ∙ written-take count order (omega arith)), are ∙ sym (ap (numbersBelow k) e)))
 
   number-is : getD numbers x 0 ≡ numberAmong l x
   number-is = ap (λ (l : List ℕ). getD l x 0) are ∙ numbers-at k l x inside
 
   pub class-none : x ≡ 0 → NotedClass count order numbers
-  class-none e = stays (ap (withState l) e ∙ with-none l)
+  class-none e = stays (ap (addState l) e ∙ added-none l)
 
   pub class-known : 0 < getD numbers x 0 → NotedClass count order numbers
-  class-known p = stays (with-known l x (is-state (numberAmong l x) (omega (arith, number-is))))
+  class-known p = stays (added-known l x (is-state (numberAmong l x) (omega (arith, number-is))))
 
   pub class-new : (x ≡ 0 → ⊥) → getD numbers x 0 ≤ 0 → NotedClass (count + 1) (set order count x) (set numbers x (count + 1))
   class-new state none =
       let zero : numberAmong l x ≡ 0 = omega (arith, number-is) in
       let p : isState x ≡ true = is-state x (omega arith) in
-      let more : withState l x ≡ l ++ (x ∷ []) = with-new l x p zero in
+      let more : addState l x ≡ l ++ (x ∷ []) = added-new l x p zero in
       let next : count + 1 ≡ suc (length l) = omega (arith, long) in (
         rw (more, length-append) (omega (arith, long)),
         (

@@ -5,7 +5,7 @@ ghost use Prim.Native.Nat.{_+_, _-_, _*_, _<_, _≤_};
 ghost use lib.ListN.{length, take, replicate};
 ghost use Rattle.definitions.specs.Answer.{written};
 ghost use Rattle.definitions.specs.Bytes.{byte};
-ghost use Rattle.tables.specs.States.{withState, afterCodes};
+ghost use Rattle.tables.specs.States.{addState, afterCodes};
 ghost use Rattle.number.specs.Numbers.{Joined, NamesFirst, joinedIn, numbersBelow, VisitedClass, Numbered};
 use automaton::wide;
 
@@ -13,9 +13,9 @@ use automaton::wide;
 fn note_class(order: &mut [u8], numbers: &mut [u8], count: usize, class: usize) -> usize
     requires { ⌜ (count ≤ 127) × (count < length (now order)) × (class < length (now numbers)) × (length (now numbers) ≤ 128) ⌝ }
     requires { ⌜ now numbers ≡ numbersBelow (length (now numbers)) (take count (now order)) ⌝ }
-    ensures { λ r. ⌜ r ≡ length (withState (take count (now (order .entry))) class) ⌝ }
-    ensures { λ r. ⌜ now (order .exit) ≡ written (withState (take count (now (order .entry))) class) (now (order .entry)) ⌝ }
-    ensures { λ r. ⌜ now (numbers .exit) ≡ numbersBelow (length (now (numbers .entry))) (withState (take count (now (order .entry))) class) ⌝ }
+    ensures { λ r. ⌜ r ≡ length (addState (take count (now (order .entry))) class) ⌝ }
+    ensures { λ r. ⌜ now (order .exit) ≡ written (addState (take count (now (order .entry))) class) (now (order .entry)) ⌝ }
+    ensures { λ r. ⌜ now (numbers .exit) ≡ numbersBelow (length (now (numbers .entry))) (addState (take count (now (order .entry))) class) ⌝ }
 {
     if class == 0 {
         return count;

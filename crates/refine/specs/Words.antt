@@ -12,6 +12,7 @@ use Rattle.definitions.specs.Situation.{emptySet, insert}
 abbrev pub allStates : ℕ
 allStates = 18446744073709551615
 
+-- a word with state x put in
 abbrev pub withState : ℕ → ℕ → ℕ
 withState x word = insert (x / 2) word
 

@@ -15,7 +15,7 @@ use Rattle.automaton.proofs.Counting.{place-hit, place-end}
 use Rattle.automaton.proofs.WellFormed.{getD-map-within}
 use Rattle.automaton.proofs.Exploring.{stateAt, front-length}
 use Rattle.automaton.proofs.Turns.{visit-grows}
-use Rattle.tables.specs.States.{stateOf, states, bare, numberAmong, withState, afterCodes}
+use Rattle.tables.specs.States.{stateOf, states, bare, numberAmong, addState, afterCodes}
 
 pub states-bare : (l : List ℕ) → states (map bare l) ≡ l
 states-bare l = map-map stateOf bare l ∙ map-id l
@@ -49,60 +49,60 @@ number-low l s = number-cases l s (numberAmong l s) refl
 
 -- ---- a state is put in
 module _ (l : List ℕ) where
-  pub with-none : withState l 0 ≡ l
-  with-none = states-bare l
+  pub added-none : addState l 0 ≡ l
+  added-none = states-bare l
 
-  pub with-known : (s : ℕ) → isState (numberAmong l s) ≡ true → withState l s ≡ l
-  with-known zero e = with-none
-  with-known (suc s) e = rw e (states-bare l)
+  pub added-known : (s : ℕ) → isState (numberAmong l s) ≡ true → addState l s ≡ l
+  added-known zero e = added-none
+  added-known (suc s) e = rw e (states-bare l)
 
-  pub with-new : (s : ℕ) → isState s ≡ true → numberAmong l s ≡ 0 → withState l s ≡ l ++ (s ∷ [])
-  with-new zero p e = absurd (false≢true p)
-  with-new (suc s) p e = rw e (map-append stateOf (map bare l) (bare (suc s) ∷ []) ∙ ap (λ (x : List ℕ). x ++ (suc s ∷ [])) (states-bare l))
+  pub added-new : (s : ℕ) → isState s ≡ true → numberAmong l s ≡ 0 → addState l s ≡ l ++ (s ∷ [])
+  added-new zero p e = absurd (false≢true p)
+  added-new (suc s) p e = rw e (map-append stateOf (map bare l) (bare (suc s) ∷ []) ∙ ap (λ (x : List ℕ). x ++ (suc s ∷ [])) (states-bare l))
 
   pub number-new : (s : ℕ) → isState s ≡ true → numberAmong l s ≡ 0 → numberAmong (l ++ (s ∷ [])) s ≡ suc (length l)
   number-new s p e =
       number-place (l ++ (s ∷ [])) s p ∙ place-end (eqb s) l s (sym (number-place l s p) ∙ e) (eq-eqb s s refl)
 
   -- what holds of the list as it is, where s is 0 or known, and with s at its end, where s is new, holds of the list with s put in
-  pub with-cases : (P : List ℕ → Type 0) (s : ℕ) → (s ≡ 0 → P l) → ((k : ℕ) → numberAmong l s ≡ suc k → P l)
-      → (isState s ≡ true → numberAmong l s ≡ 0 → P (l ++ (s ∷ []))) → P (withState l s)
-  with-cases P zero none known new = rw with-none (none refl)
-  with-cases P (suc s) none known new = go (numberAmong l (suc s)) refl
+  pub added-cases : (P : List ℕ → Type 0) (s : ℕ) → (s ≡ 0 → P l) → ((k : ℕ) → numberAmong l s ≡ suc k → P l)
+      → (isState s ≡ true → numberAmong l s ≡ 0 → P (l ++ (s ∷ []))) → P (addState l s)
+  added-cases P zero none known new = rw added-none (none refl)
+  added-cases P (suc s) none known new = go (numberAmong l (suc s)) refl
     where
-      go : (n : ℕ) → numberAmong l (suc s) ≡ n → P (withState l (suc s))
-      go zero e = rw (with-new (suc s) refl e) (new refl e)
-      go (suc k) e = rw (with-known (suc s) (ap isState e)) (known k e)
+      go : (n : ℕ) → numberAmong l (suc s) ≡ n → P (addState l (suc s))
+      go zero e = rw (added-new (suc s) refl e) (new refl e)
+      go (suc k) e = rw (added-known (suc s) (ap isState e)) (known k e)
 
   -- the number of a state that was put in says how many there are then
-  pub with-length : (s : ℕ) → length (withState l s) ≡ max (length l) (numberAmong (withState l s) s)
-  with-length s = with-cases (λ more. length more ≡ max (length l) (numberAmong more s)) s
+  pub added-length : (s : ℕ) → length (addState l s) ≡ max (length l) (numberAmong (addState l s) s)
+  added-length s = added-cases (λ more. length more ≡ max (length l) (numberAmong more s)) s
       (λ e. rw e (omega arith))
       (λ k e. omega (arith, number-low l s))
       (λ p e. rw (length-append, number-new s p e) (omega arith))
 
-  pub with-few : (s : ℕ) → length (withState l s) ≤ suc (length l)
-  with-few s = with-cases (λ more. length more ≤ suc (length l)) s (λ e. omega arith) (λ k e. omega arith) (λ p e. rw length-append (omega arith))
+  pub added-few : (s : ℕ) → length (addState l s) ≤ suc (length l)
+  added-few s = added-cases (λ more. length more ≤ suc (length l)) s (λ e. omega arith) (λ k e. omega arith) (λ p e. rw length-append (omega arith))
 
 -- ---- the histories do not matter
-pub add-states : (found : List Reached) (s : ℕ) (h : History) → states (add found s h) ≡ withState (states found) s
-add-states found zero h = sym (with-none (states found))
+pub add-states : (found : List Reached) (s : ℕ) (h : History) → states (add found s h) ≡ addState (states found) s
+add-states found zero h = sym (added-none (states found))
 add-states found (suc s) h = go (numberIn found (suc s)) refl
   where
     go : (n : ℕ) → numberIn found (suc s) ≡ n
-        → states (cond (isState n) found (found ++ (record { state = suc s; history = h } ∷ []))) ≡ withState (states found) (suc s)
-    go zero e = map-append stateOf found (record { state = suc s; history = h } ∷ []) ∙ sym (with-new (states found) (suc s) refl (number-states found (suc s) ∙ e))
-    go (suc k) e = sym (with-known (states found) (suc s) (ap isState (number-states found (suc s) ∙ e)))
+        → states (cond (isState n) found (found ++ (record { state = suc s; history = h } ∷ []))) ≡ addState (states found) (suc s)
+    go zero e = map-append stateOf found (record { state = suc s; history = h } ∷ []) ∙ sym (added-new (states found) (suc s) refl (number-states found (suc s) ∙ e))
+    go (suc k) e = sym (added-known (states found) (suc s) (ap isState (number-states found (suc s) ∙ e)))
 
 module _ (m : Machine) where
-  pub after-more : (s c : ℕ) (l : List ℕ) → afterCodes m s (suc c) l ≡ withState (afterCodes m s c l) (step m s c)
+  pub after-more : (s c : ℕ) (l : List ℕ) → afterCodes m s (suc c) l ≡ addState (afterCodes m s c l) (step m s c)
   after-more s c l = add-states (visit m (bare s) c (map bare l)) (step m s c) ([] ++ (c ∷ []))
 
   pub visit-states : (t : Reached) (k : ℕ) (found : List Reached) → states (visit m t k found) ≡ afterCodes m (t .state) k (states found)
   visit-states t zero found = sym (states-bare (states found))
   visit-states t (suc c) found =
       add-states (visit m t c found) (step m (t .state) c) (t .history ++ (c ∷ []))
-      ∙ ap (λ (l : List ℕ). withState l (step m (t .state) c)) (visit-states t c found)
+      ∙ ap (λ (l : List ℕ). addState l (step m (t .state) c)) (visit-states t c found)
       ∙ sym (after-more (t .state) c (states found))
 
   pub after-grows : (s : ℕ) (l : List ℕ) (c k : ℕ) → c ≤ k → length (afterCodes m s c l) ≤ length (afterCodes m s k l)

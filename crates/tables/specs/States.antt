@@ -19,9 +19,9 @@ bare s = record { state = s; history = [] }
 abbrev pub numberAmong : List ℕ → ℕ → ℕ
 numberAmong found s = numberIn (map bare found) s
 
--- a state that is possible and new goes to the end
-abbrev pub withState : List ℕ → ℕ → List ℕ
-withState found s = states (add (map bare found) s [])
+-- those found, with a state put in: one that is possible and new goes to the end
+abbrev pub addState : List ℕ → ℕ → List ℕ
+addState found s = states (add (map bare found) s [])
 
 -- those found once the codes below k have been tried from state s
 abbrev pub afterCodes : Machine → ℕ → ℕ → List ℕ → List ℕ
