@@ -1,7 +1,7 @@
 // From a policy to its book: the situations that histories reach, alike ones joined, numbered by their earliest history, and written as bytes.
 ghost use mathlib.Core.Path.{_≡_};
 ghost use Prim.Native.Nat.{_+_, _*_, _≤_};
-ghost use lib.ListN.{length, replicate};
+ghost use lib.ListN.{length};
 ghost use Rattle.automaton.specs.Join.{minimal};
 ghost use Rattle.definitions.specs.Answer.{written};
 ghost use Rattle.definitions.specs.Policy.{fields, width, frame};
@@ -13,28 +13,20 @@ ghost use Rattle.build.specs.Built.{builtAnswer};
 use policy::shape::Shape;
 
 // The book of a policy whose situations have the `n` rows of `raw`: alike ones are joined, numbered and written. Gives the book's length. The bytes after
-// it stay. The last four slices are room to work in, the last of them all zeros before; nothing is said of what they hold afterwards.
-fn write_joined(
-    book: &mut [u8],
-    policy: &[u8],
-    raw: &[u8],
-    n: usize,
-    w: usize,
-    classes: &mut [u8],
-    next: &mut [u8],
-    order: &mut [u8],
-    numbers: &mut [u8],
-) -> usize
+// it stay.
+fn write_joined(book: &mut [u8], policy: &[u8], raw: &[u8], n: usize, w: usize) -> usize
     requires { ⌜ TableIn (now raw) n w × (n ≤ 127) × (12 + n * w ≤ length (now book)) ⌝ }
     requires { ⌜ (9 ≤ length (now policy)) × (9 + fields (now policy) ≤ length (now policy)) ⌝ }
-    requires { ⌜ (128 ≤ length (now classes)) × (128 ≤ length (now next)) × (128 ≤ length (now order)) ⌝ }
-    requires { ⌜ (128 ≤ length (now numbers)) × (now numbers ≡ replicate (length (now numbers)) 0) ⌝ }
     ensures { λ r. ⌜ r ≡ length (bookBytes (frame (now (policy .entry))) (minimal w (rowsIn (now (raw .entry)) n w))) ⌝ }
     ensures { λ r. ⌜ now (book .exit) ≡ written (bookBytes (frame (now (policy .entry))) (minimal w (rowsIn (now (raw .entry)) n w))) (now (book .entry)) ⌝ }
 {
+    let mut classes = [0u8; 128];
+    let mut next = [0u8; 128];
+    let mut order = [0u8; 128];
+    let mut numbers = [0u8; 128];
     let size = n + 1;
     refine::refine_all(raw, w, &mut classes[..size], &mut next[..size]);
-    let k = number::number(raw, w, &classes[..size], order, &mut numbers[..size]);
+    let k = number::number(raw, w, &classes[..size], &mut order, &mut numbers[..size]);
     write::write_book(book, policy, raw, w, &order[..k], &numbers[..size])
 }
 
@@ -45,22 +37,16 @@ pub enum Built {
 }
 
 // The book of a policy that no row up to 10 turns down. Row 11, over 127 situations, leaves the buffer alone, and bytes after the book stay. The slices
-// after the first two are room to work in, the last of them all zeros before; nothing is said of what they hold afterwards.
+// after the first two are room to work in; nothing is said of what they hold afterwards.
 fn build_in(
     policy: &[u8],
     book: &mut [u8],
     images: &mut [u64],
     found: &mut [u64],
     raw: &mut [u8],
-    classes: &mut [u8],
-    next: &mut [u8],
-    order: &mut [u8],
-    numbers: &mut [u8],
 ) -> Built
     requires { ⌜ (fileRefusal (now policy) ≡ 0) × (17284 ≤ length (now book)) ⌝ }
     requires { ⌜ (64 * width (now policy) ≤ length (now images)) × (128 ≤ length (now found)) × (127 * width (now policy) ≤ length (now raw)) ⌝ }
-    requires { ⌜ (128 ≤ length (now classes)) × (128 ≤ length (now next)) × (128 ≤ length (now order)) ⌝ }
-    requires { ⌜ (128 ≤ length (now numbers)) × (now numbers ≡ replicate (length (now numbers)) 0) ⌝ }
     ensures { λ r. ⌜ builtAnswer r ≡ buildAnswer (now (policy .entry)) (now (book .entry)) ⌝ }
     ensures { λ r. ⌜ now (book .exit) ≡ buildBuffer (now (policy .entry)) (now (book .entry)) ⌝ }
 {
@@ -71,10 +57,10 @@ fn build_in(
     if n == 0 {
         return Built::Refused(11);
     }
-    Built::Written(write_joined(book, policy, raw, n, w, classes, next, order, numbers))
+    Built::Written(write_joined(book, policy, raw, n, w))
 }
 
-// The same, with arrays for room.
+// The same, with room for every policy. The size of an array is a constant, so that each size has a function of its own.
 fn build_wide(policy: &[u8], book: &mut [u8]) -> Built
     requires { ⌜ (fileRefusal (now policy) ≡ 0) × (17284 ≤ length (now book)) ⌝ }
     ensures { λ r. ⌜ builtAnswer r ≡ buildAnswer (now (policy .entry)) (now (book .entry)) ⌝ }
@@ -83,21 +69,7 @@ fn build_wide(policy: &[u8], book: &mut [u8]) -> Built
     let mut images = [0u64; 8704];
     let mut found = [0u64; 128];
     let mut raw = [0u8; 17272];
-    let mut classes = [0u8; 128];
-    let mut next = [0u8; 128];
-    let mut order = [0u8; 128];
-    let mut numbers = [0u8; 128];
-    build_in(
-        policy,
-        book,
-        &mut images,
-        &mut found,
-        &mut raw,
-        &mut classes,
-        &mut next,
-        &mut order,
-        &mut numbers,
-    )
+    build_in(policy, book, &mut images, &mut found, &mut raw)
 }
 
 // The same for a policy of at most 32 codes: smaller arrays are cleared faster.
@@ -109,21 +81,7 @@ fn build_narrow(policy: &[u8], book: &mut [u8]) -> Built
     let mut images = [0u64; 2048];
     let mut found = [0u64; 128];
     let mut raw = [0u8; 4064];
-    let mut classes = [0u8; 128];
-    let mut next = [0u8; 128];
-    let mut order = [0u8; 128];
-    let mut numbers = [0u8; 128];
-    build_in(
-        policy,
-        book,
-        &mut images,
-        &mut found,
-        &mut raw,
-        &mut classes,
-        &mut next,
-        &mut order,
-        &mut numbers,
-    )
+    build_in(policy, book, &mut images, &mut found, &mut raw)
 }
 
 // The same, with as much room as the policy needs.

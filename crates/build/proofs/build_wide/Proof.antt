@@ -1,6 +1,5 @@
 use Rattle.build.proofs.Building.{width-low}
 use native.Mathlib.Omega.{arith}
-use mathlib.Core.Path.{refl}
 use borrow.Author.Needs.{needs}
 use Rattle.build.proofs.build_wide.Statement.{statement}
 use Rattle.build.proofs.build_wide.Tie as tie
@@ -14,23 +13,11 @@ slice-aggregate-build-in-2 c = search needs
 slice-aggregate-build-in-3 : tie.Need-slice-aggregate-build-in-3
 slice-aggregate-build-in-3 c = search needs
 
-slice-aggregate-build-in-4 : tie.Need-slice-aggregate-build-in-4
-slice-aggregate-build-in-4 c = search needs
-
-slice-aggregate-build-in-5 : tie.Need-slice-aggregate-build-in-5
-slice-aggregate-build-in-5 c = search needs
-
-slice-aggregate-build-in-6 : tie.Need-slice-aggregate-build-in-6
-slice-aggregate-build-in-6 c = search needs
-
-slice-aggregate-build-in-7 : tie.Need-slice-aggregate-build-in-7
-slice-aggregate-build-in-7 c = search needs
-
 build-in-requires : tie.Need-build-in-requires
 build-in-requires c κs =
-    let p = c .before .before .before .before .before .before .before .before .before .before in
+    let p = c .before .before .before .before .before .before in
     let low = width-low (p .args .policy .now) (p .pre .0) in
-    ((p .pre .0, p .pre .1), ((omega arith, omega arith, omega arith), ((omega arith, omega arith, omega arith), (omega arith, refl))))
+    ((p .pre .0, p .pre .1), (omega arith, omega arith, omega arith))
 
 same-length : tie.Need-same-length
 same-length c = search needs
@@ -45,10 +32,6 @@ build-wide-spec =
     slice-aggregate-build-in
     slice-aggregate-build-in-2
     slice-aggregate-build-in-3
-    slice-aggregate-build-in-4
-    slice-aggregate-build-in-5
-    slice-aggregate-build-in-6
-    slice-aggregate-build-in-7
     build-in-requires
     same-length
     returns)
