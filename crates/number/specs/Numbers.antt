@@ -14,23 +14,23 @@ use Rattle.tables.specs.Rows.{TableIn}
 use Rattle.tables.specs.Classes.{rowsWith, lastRound}
 
 -- the array holds the classes of a table's alike states
-pub record Joined (raw : List ℕ) (w : ℕ) (classOf : List ℕ) : Type 0 where
-  pub few : length classOf ≤ 128
-  pub table : TableIn raw (length classOf - 1) w
-  pub are : classOf ≡ lastRound raw w classOf
+pub record Joined (raw : List ℕ) (w : ℕ) (classes : List ℕ) : Type 0 where
+  pub few : length classes ≤ 128
+  pub table : TableIn raw (length classes - 1) w
+  pub are : classes ≡ lastRound raw w classes
 
 -- a class has the number of its first state
-pub record NamesFirst (classOf : List ℕ) : Type 0 where
-  pub low : (s : ℕ) → s < length classOf → byte classOf s ≤ s
-  pub own : (s : ℕ) → s < length classOf → byte classOf (byte classOf s) ≡ byte classOf s
+pub record NamesFirst (classes : List ℕ) : Type 0 where
+  pub low : (s : ℕ) → s < length classes → byte classes s ≤ s
+  pub own : (s : ℕ) → s < length classes → byte classes (byte classes s) ≡ byte classes s
 
 -- the table's machine with classes for states
 abbrev pub joinedIn : List ℕ → ℕ → List ℕ → Machine
-joinedIn raw w classOf = joined w (rowsWith raw w classOf)
+joinedIn raw w classes = joined w (rowsWith raw w classes)
 
 -- the classes that it reaches, in the order of their earliest history
 abbrev pub classesReached : List ℕ → ℕ → List ℕ → List Reached
-classesReached raw w classOf = reached (joinedIn raw w classOf) (length classOf - 1)
+classesReached raw w classes = reached (joinedIn raw w classes) (length classes - 1)
 
 -- the number of each state below k among those found
 abbrev pub numbersBelow : ℕ → List ℕ → List ℕ
@@ -38,7 +38,7 @@ numbersBelow k found = listBelow k (numberAmong found)
 
 -- the number of each state of the table: that of its class
 abbrev pub stateNumbers : List ℕ → ℕ → List ℕ → List ℕ
-stateNumbers raw w classOf = map (numberIn (classesReached raw w classOf)) classOf
+stateNumbers raw w classes = map (numberIn (classesReached raw w classes)) classes
 
 -- state s of m has been visited, with those in l found before: r are found then, in the array order′, and numbers′ has the number of each state below k
 pub record VisitedClass (m : Machine) (s : ℕ) (l order : List ℕ) (k r : ℕ) (order′ numbers′ : List ℕ) : Type 0 where
@@ -47,7 +47,7 @@ pub record VisitedClass (m : Machine) (s : ℕ) (l order : List ℕ) (k r : ℕ)
   pub numbers : numbers′ ≡ numbersBelow k (afterCodes m s (m .width) l)
 
 -- the classes that a table's machine reaches are in the array order′, r of them, and numbers′ has the number of each state of the table
-pub record Numbered (raw : List ℕ) (w : ℕ) (classOf order : List ℕ) (r : ℕ) (order′ numbers′ : List ℕ) : Type 0 where
-  pub count : r ≡ length (classesReached raw w classOf)
-  pub array : order′ ≡ written (states (classesReached raw w classOf)) order
-  pub numbers : numbers′ ≡ stateNumbers raw w classOf
+pub record Numbered (raw : List ℕ) (w : ℕ) (classes order : List ℕ) (r : ℕ) (order′ numbers′ : List ℕ) : Type 0 where
+  pub count : r ≡ length (classesReached raw w classes)
+  pub array : order′ ≡ written (states (classesReached raw w classes)) order
+  pub numbers : numbers′ ≡ stateNumbers raw w classes

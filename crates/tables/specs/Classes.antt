@@ -7,8 +7,8 @@ use Rattle.tables.specs.Rows.{rowsIn}
 
 -- the rows of a table whose classes the array holds
 abbrev pub rowsWith : List ℕ → ℕ → List ℕ → List (List ℕ)
-rowsWith raw w classOf = rowsIn raw (length classOf - 1) w
+rowsWith raw w array = rowsIn raw (length array - 1) w
 
 -- the array of the classes of its alike states
 abbrev pub lastRound : List ℕ → ℕ → List ℕ → List ℕ
-lastRound raw w classOf = 0 ∷ classes (rowsWith raw w classOf)
+lastRound raw w array = 0 ∷ classes (rowsWith raw w array)
