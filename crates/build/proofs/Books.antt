@@ -1,12 +1,11 @@
 -- The rows that are written are those of the smallest table with the histories of the table that was explored.
 use mathlib.Core.Path.{_≡_, sym, ap, _∙_}
-use mathlib.Core.Bool.{true, false≢true}
 use mathlib.Core.List.{List, []}
-use Prim.Native.Nat.{ℕ, zero, suc, _+_, _-_, _*_, _<_, _≤_}
+use Prim.Native.Nat.{ℕ, _+_, _-_, _*_, _<_, _≤_}
 use native.Mathlib.Omega.{arith}
 use lib.ListN.{length, getD, take, drop, length-map, length-drop}
 use lib.Seq.{ext-getD, getD-take, getD-drop, length-take-le}
-use Rattle.automaton.specs.Machine.{Machine, step, isState}
+use Rattle.automaton.specs.Machine.{Machine, step}
 use Rattle.automaton.specs.Explore.{Reached, numberIn, reached}
 use Rattle.automaton.specs.Table.{rowOf, table}
 use Rattle.automaton.specs.Join.{minimal}
@@ -15,6 +14,7 @@ use Rattle.automaton.proofs.WellFormed.{getD-map-within}
 use Rattle.automaton.proofs.Exploring.{stateAt}
 use Rattle.automaton.proofs.Tables.{table-length}
 use Rattle.definitions.specs.Bytes.{byte}
+use Rattle.definitions.proofs.BookSteps.{state-is}
 use Rattle.tables.specs.States.{states}
 use Rattle.write.specs.Rows.{numberedRow, numberedRows, StatesBelow}
 use Rattle.tables.specs.Classes.{rowsWith}
@@ -38,17 +38,13 @@ module _ {raw : List ℕ} {w : ℕ} {array : List ℕ} (ok : Joined raw w array)
   numbers-length : length numbers ≡ length array
   numbers-length = length-map array (numberIn L)
 
-  state-is : (i : ℕ) → i < length L → (1 ≤ stateAt L i) × (stateAt L i < length array)
-  state-is i l = (go (stateAt L i) (classes-sound ok .states i l), omega (arith, state-low ok i l, ok .table .some))
-    where
-      go : (s : ℕ) → isState s ≡ true → 1 ≤ s
-      go zero p = absurd (false≢true p)
-      go (suc s) p = omega arith
+  class-state : (i : ℕ) → i < length L → (1 ≤ stateAt L i) × (stateAt L i < length array)
+  class-state i l = (state-is (stateAt L i) (classes-sound ok .states i l), omega (arith, state-low ok i l, ok .table .some))
 
   pub order-states : StatesBelow (states L) (length numbers)
   order-states i l =
       let b : i < length L = omega (arith, length-states L) in
-      let s = state-is i b in
+      let s = class-state i b in
       rw (state-at L i b) (s .0, omega (arith, s .1, numbers-length))
 
   -- the row of a class, entry by entry
@@ -80,7 +76,7 @@ module _ {raw : List ℕ} {w : ℕ} {array : List ℕ} (ok : Joined raw w array)
     where
       row : (i : ℕ) → i < length L → getD (numberedRows raw w numbers (states L)) i [] ≡ getD (table J L) i []
       row i l =
-          let s = state-is i l in
+          let s = class-state i l in
           getD-map-within (numberedRow raw w numbers) (states L) i 0 [] (omega (arith, length-states L))
           ∙ ap (numberedRow raw w numbers) (state-at L i l)
           ∙ numbered-row (stateAt L i) (s .0) (s .1)

@@ -11,7 +11,7 @@ use lib.Seq.{getD-at}
 use Rattle.automaton.specs.Machine.{Machine, step, isState}
 use Rattle.automaton.proofs.Counting.{below-suc, place-append}
 use Rattle.tables.specs.States.{numberAmong, afterCodes}
-use Rattle.tables.proofs.States.{states-bare, number-place, number-new, added-cases, after-more}
+use Rattle.tables.proofs.States.{states-bare, number-place, number-new, added-cases, after-more, number-none}
 use Rattle.explore.specs.Reaches.{Once}
 
 -- a list that grows at its end keeps the numbers
@@ -31,11 +31,7 @@ once-end l s once p new k b = go (below-suc k (length l) (omega (arith, length-a
     go (inr e) = ap (numberAmong more) (getD-at l s [] 0 k (sym e)) ∙ number-new l s p new ∙ ap suc (sym e)
 
 pub once-one : (s : ℕ) → isState s ≡ true → Once (s ∷ [])
-once-one s p = once-end [] s (λ k b. absurd (omega arith)) p (none s)
-  where
-    none : (s : ℕ) → numberAmong [] s ≡ 0
-    none zero = refl
-    none (suc s) = refl
+once-one s p = once-end [] s (λ k b. absurd (omega arith)) p (number-none s)
 
 pub once-after : (m : Machine) (s c : ℕ) (l : List ℕ) → Once l → Once (afterCodes m s c l)
 once-after m s zero l once = rw (states-bare l) once

@@ -15,7 +15,7 @@ use Rattle.automaton.proofs.Counting.{length-list-below, getD-list-below}
 use Rattle.definitions.specs.Answer.{written}
 use Rattle.tables.specs.States.{numberAmong, addState}
 use Rattle.number.specs.Numbers.{numbersBelow}
-use Rattle.tables.proofs.States.{number-place, added-none, added-known, added-new, number-new}
+use Rattle.tables.proofs.States.{number-place, added-none, added-known, added-new, number-new, number-none}
 use Rattle.definitions.proofs.BookSteps.{is-state}
 use Rattle.tables.proofs.Buffers.{written-take, written-next}
 
@@ -35,7 +35,7 @@ numbers-at k l y b = getD-list-below (numberAmong l) k y 0 b
 numbers-length : (k : ℕ) (l : List ℕ) → length (numbersBelow k l) ≡ k
 numbers-length k l = length-list-below (numberAmong l) k
 
-pub numbers-new : (k : ℕ) (l : List ℕ) (x : ℕ) → x < k → isState x ≡ true → numberAmong l x ≡ 0
+numbers-new : (k : ℕ) (l : List ℕ) (x : ℕ) → x < k → isState x ≡ true → numberAmong l x ≡ 0
     → set (numbersBelow k l) x (suc (length l)) ≡ numbersBelow k (l ++ (x ∷ []))
 numbers-new k l x b p none =
     ext-getD 0 (set (numbersBelow k l) x (suc (length l))) (numbersBelow k (l ++ (x ∷ [])))
@@ -53,11 +53,7 @@ numbers-new k l x b p none =
 pub numbers-none : (k : ℕ) → replicate k 0 ≡ numbersBelow k []
 numbers-none k =
     ext-getD 0 (replicate k 0) (numbersBelow k []) (length-replicate k 0 ∙ sym (numbers-length k []))
-    (λ y l. let b : y < k = omega (arith, length-replicate {A = ℕ} k 0) in getD-replicate k y 0 0 b ∙ sym (numbers-at k [] y b ∙ none y))
-  where
-    none : (y : ℕ) → numberAmong [] y ≡ 0
-    none zero = refl
-    none (suc y) = refl
+    (λ y l. let b : y < k = omega (arith, length-replicate {A = ℕ} k 0) in getD-replicate k y 0 0 b ∙ sym (numbers-at k [] y b ∙ number-none y))
 
 -- ---- a class is noted
 module _ (order numbers : List ℕ) (count x : ℕ) (room : count < length order) (inside : x < length numbers)

@@ -1,8 +1,7 @@
 -- The search state by state, with the states found in an array.
 use mathlib.Core.Path.{_≡_, refl, sym, ap, _∙_}
-use mathlib.Core.Bool.{true, false≢true}
 use mathlib.Core.List.{List, [], _∷_}
-use Prim.Native.Nat.{ℕ, zero, suc, _+_, _<_, _≤_}
+use Prim.Native.Nat.{ℕ, suc, _+_, _<_, _≤_}
 use native.Mathlib.Omega.{arith}
 use native.Mathlib.Numerals.{add-one}
 use lib.ListN.{length, getD, take, drop, List·getD-append}
@@ -11,6 +10,7 @@ use Rattle.automaton.specs.Explore.{Reached, numberIn, visit, unreached, startO
 use Rattle.automaton.specs.Table.{rowOf}
 use Rattle.automaton.proofs.Exploring.{Front, front-at, front-length, visit-front, stateAt, Sound}
 use Rattle.definitions.specs.Answer.{written}
+use Rattle.definitions.proofs.BookSteps.{state-is}
 use Rattle.tables.specs.States.{states, numberAmong, afterCodes, rowAmong}
 use Rattle.tables.proofs.States.{length-states, state-at, number-states, visit-states}
 use Rattle.automaton.proofs.Congruence.{list-below-same}
@@ -68,11 +68,7 @@ module _ {m : Machine} {most : ℕ} {L : List Reached} {found₀ found : List �
     searched-at = at-list ∙ sym (ap (λ (t : Reached). t .state) (front-at front s (omega (arith, now .count))))
 
     pub searched-state : 0 < getD found s 0
-    searched-state = go (getD found s 0) (ap isState searched-at ∙ now .sound .states s (omega (arith, searched-all)))
-      where
-        go : (k : ℕ) → isState k ≡ true → 0 < k
-        go zero p = absurd (false≢true p)
-        go (suc k) p = omega arith
+    searched-state = state-is (getD found s 0) (ap isState searched-at ∙ now .sound .states s (omega (arith, searched-all)))
 
     abbrev t : Reached
     t = getD (now .list) s unreached

@@ -39,6 +39,10 @@ pub number-states : (found : List Reached) (s : ℕ) → numberAmong (states fou
 number-states found zero = refl
 number-states found (suc s) = number-place (states found) (suc s) refl ∙ place-map (eqb (suc s)) stateOf found
 
+pub number-none : (s : ℕ) → numberAmong [] s ≡ 0
+number-none zero = refl
+number-none (suc s) = refl
+
 number-cases : (l : List ℕ) (s n : ℕ) → numberAmong l s ≡ n → n ≤ length l
 number-cases l s zero e = omega arith
 number-cases l zero (suc k) e = absurd (omega arith)
@@ -85,7 +89,7 @@ module _ (l : List ℕ) where
   added-few s = added-cases (λ more. length more ≤ suc (length l)) s (λ e. omega arith) (λ k e. omega arith) (λ p e. rw length-append (omega arith))
 
 -- ---- the histories do not matter
-pub add-states : (found : List Reached) (s : ℕ) (h : History) → states (add found s h) ≡ addState (states found) s
+add-states : (found : List Reached) (s : ℕ) (h : History) → states (add found s h) ≡ addState (states found) s
 add-states found zero h = sym (added-none (states found))
 add-states found (suc s) h = go (numberIn found (suc s)) refl
   where
