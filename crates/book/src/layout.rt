@@ -6,7 +6,7 @@ ghost use Rattle.definitions.specs.Book as Book;
 ghost use Rattle.definitions.proofs.Accepted.{BookLayout};
 use automaton::wide;
 
-// E.
+// E, the number of events.
 pub fn events(book: &[u8]) -> usize
     requires { ⌜ 12 ≤ length (now book) ⌝ }
     ensures { λ r. ⌜ r ≡ Book.events (now (book .entry)) ⌝ }
@@ -14,7 +14,7 @@ pub fn events(book: &[u8]) -> usize
     wide(book[5])
 }
 
-// n.
+// n, the number of states.
 pub fn states(book: &[u8]) -> usize
     requires { ⌜ 12 ≤ length (now book) ⌝ }
     ensures { λ r. ⌜ r ≡ Book.states (now (book .entry)) ⌝ }

@@ -26,7 +26,7 @@ module _ (found : List ℕ) (n x : ℕ) (room : n < length found) where
   pub note-none : x ≡ 0 → Noted 0 found
   note-none e = (rw e, rw (e, added-none (take n found)) (sym (written-take n found (omega arith))))
 
-  pub note-known : (r : ℕ) → numberAmong (take n found) x ≡ r → 0 < r → Noted r found
+  note-known : (r : ℕ) → numberAmong (take n found) x ≡ r → 0 < r → Noted r found
   note-known r is l =
       let same : addState (take n found) x ≡ take n found = added-known (take n found) x (is-state (numberAmong (take n found) x) (omega arith)) in
       (rw same (sym is), rw same (sym (written-take n found (omega arith))))

@@ -46,9 +46,9 @@ reaching-begun m L found raw room long all begins sound = record {
 -- where the start was put in does not count
 pub reaches-from : {m : Machine} {found raw : List ℕ} {r : ℕ} {found′ raw′ : List ℕ} (x : ℕ) → 0 < length found → 0 < length (allReached m)
     → Reaches m (set found 0 x) raw r found′ raw′ → Reaches m found raw r found′ raw′
-reaches-from {m} {found} x some few reaches = record {
+reaches-from {m} {found} x room some reaches = record {
   count = reaches .count;
-  array = λ p. reaches .array p ∙ ap (λ (l : List ℕ). written (states (allReached m)) l) (set-split found 0 x some)
+  array = λ p. reaches .array p ∙ ap (λ (l : List ℕ). written (states (allReached m)) l) (set-split found 0 x room)
       ∙ written-again (x ∷ []) (states (allReached m)) found (omega (arith, length-states (allReached m)));
   rows = reaches .rows;
 }

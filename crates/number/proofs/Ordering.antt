@@ -57,7 +57,7 @@ module _ {raw : List ℕ} {w : ℕ} {array : List ℕ} (ok : Joined raw w array)
       omega (arith, led, class .0, count ok)
 
   -- the number of each state from those of the classes
-  pub numbers-spread : map (byte (numbersBelow (length array) (states (classesReached raw w array)))) array ≡ stateNumbers raw w array
+  numbers-spread : map (byte (numbersBelow (length array) (states (classesReached raw w array)))) array ≡ stateNumbers raw w array
   numbers-spread =
       let L = classesReached raw w array in
       let f = byte (numbersBelow (length array) (states L)) in

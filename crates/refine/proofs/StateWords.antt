@@ -22,7 +22,7 @@ one-alone : (x y : ℕ) → x ≡ 1 → y < 2 → min x y ≡ 0 → eqb y 1 ≡ 
 one-alone x zero e l z = refl
 one-alone x (suc y) e l z = absurd (omega arith)
 
-pub no-common : (a b u : ℕ) → bitAnd a b ≡ 0 → Has a u → bit b u ≡ false
+no-common : (a b u : ℕ) → bitAnd a b ≡ 0 → Has a u → bit b u ≡ false
 no-common a b u z h =
     let none : bitAnd (a / 2 ^ u) (b / 2 ^ u) ≡ 0 = sym (and-shr a b u) ∙ ap (λ (x : ℕ). x / 2 ^ u) z ∙ zero-div (2 ^ u) in
     one-alone (a / 2 ^ u % 2) (b / 2 ^ u % 2) (eqb-true _ _ h) (omega arith) (omega (arith, and-step (a / 2 ^ u) (b / 2 ^ u)))

@@ -54,7 +54,7 @@ drop-past : (a : ℕ) (s : List ℕ) → drop (length s - a) (drop a s) ≡ []
 drop-past a s = drop-of-length-le (drop a s) {i = length s - a} (rw length-drop (le-refl (length s - a)))
 
 -- ---- rows
-pub concat-append : (A B : List (List ℕ)) → concat (A ++ B) ≡ concat A ++ concat B
+concat-append : (A B : List (List ℕ)) → concat (A ++ B) ≡ concat A ++ concat B
 concat-append [] B = refl
 concat-append (row ∷ A) B = ap (λ (l : List ℕ). row ++ l) (concat-append A B) ∙ sym (append-assoc row (concat A) (concat B))
 

@@ -34,7 +34,7 @@ module _ (raw : List ℕ) (w : ℕ) (numbers order : List ℕ) (ok : TableIn raw
   pub numbered-count : length (numberedRows raw w numbers order) ≡ length order
   numbered-count = length-map order (numberedRow raw w numbers)
 
-  pub numbered-at : (i : ℕ) → i < length order → getD (numberedRows raw w numbers order) i [] ≡ numberedRow raw w numbers (byte order i)
+  numbered-at : (i : ℕ) → i < length order → getD (numberedRows raw w numbers order) i [] ≡ numberedRow raw w numbers (byte order i)
   numbered-at i l = getD-map-within (numberedRow raw w numbers) order i 0 [] l
 
   pub numbered-part : (i x : ℕ) (part buffer : List ℕ) → i < length order → x ≡ byte order i
@@ -56,7 +56,7 @@ module _ (p : List ℕ) (rows : List (List ℕ)) where
   book-is : bookBytes (frame p) rows ≡ bookHeader p (length rows) ++ concat rows
   book-is = refl
 
-  pub book-written : (buffer : List ℕ) → laid 12 rows (written (bookHeader p (length rows)) buffer) ≡ written (bookBytes (frame p) rows) buffer
+  book-written : (buffer : List ℕ) → laid 12 rows (written (bookHeader p (length rows)) buffer) ≡ written (bookBytes (frame p) rows) buffer
   book-written buffer = laid-after (bookHeader p (length rows)) rows buffer 12 refl ∙ ap (λ (bytes : List ℕ). written bytes buffer) (sym book-is)
 
   pub book-length : (w : ℕ) → Wide w rows → length (bookBytes (frame p) rows) ≡ 12 + length rows * w

@@ -79,7 +79,7 @@ note-class-requires c κs =
     let long = classes-length (l .inv) in
     let h = entry p (l .c) (c .before .before .before .before .before .before .loop-test .taken) in
     let low = class-low (p .pre .0 .0) (byte (p .args .raw .now) ((p .args .s - 1) * p .args .w + l .c)) h in
-    let is = code (c) in (
+    let is = code c in (
       (few, omega (arith, p .pre .1 .0 .0), omega (arith, p .pre .0 .2), omega (arith, p .pre .0 .0 .few)),
       classes-numbers (l .inv),
     )

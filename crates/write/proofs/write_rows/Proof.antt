@@ -52,10 +52,10 @@ loop-holds : tie.Need-loop-holds Inv-loop μ-loop
 loop-holds c = (search needs, sym (laid-none 12 _))
 
 mul-at : tie.Need-mul-at Inv-loop μ-loop
-mul-at c = omega (arith, fits (c))
+mul-at c = omega (arith, fits c)
 
 add-at : tie.Need-add-at Inv-loop μ-loop
-add-at c = omega (arith, fits (c))
+add-at c = omega (arith, fits c)
 
 shared-slice-read-wide : tie.Need-shared-slice-read-wide Inv-loop μ-loop
 shared-slice-read-wide c = search needs
@@ -64,10 +64,10 @@ wide-requires : tie.Need-wide-requires Inv-loop μ-loop
 wide-requires c κs = search needs
 
 sub-from : tie.Need-sub-from Inv-loop μ-loop
-sub-from c = omega (arith, state (c) .0)
+sub-from c = omega (arith, state c .0)
 
 mul-from : tie.Need-mul-from Inv-loop μ-loop
-mul-from c = omega (arith, within (c))
+mul-from c = omega (arith, within c)
 
 sub-write-row : tie.Need-sub-write-row Inv-loop μ-loop
 sub-write-row c = omega (arith, fits (c .before .before), size (c .before .before .before))
