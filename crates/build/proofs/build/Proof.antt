@@ -1,3 +1,4 @@
+-- `build` meets its contract: each refusal is that of the lowest row that fits.
 use Rattle.build.proofs.Building.{refused-by-1, refused-by-file, build-refused}
 use native.Mathlib.Omega.{arith}
 use mathlib.Core.Path.{sym, _∙_}

@@ -1,3 +1,4 @@
+-- `build_in` meets its contract: what exploring leaves is the table of the policy's situations, and its book is written.
 use Rattle.definitions.specs.Refusal.{situations}
 use Rattle.build.proofs.Building.{width-low, valuations-low, images-fit, book-fits, header-read, explored-over, explored-count, explored-rows, explored-table, situations-are, situations-table, refused-by-11, refused-by-none, build-refused, build-given}
 use Rattle.build.proofs.Policies.{ImagesOf}

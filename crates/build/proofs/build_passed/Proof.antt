@@ -1,3 +1,4 @@
+-- `build_passed` meets its contract: at most 12 requests make at most 32 codes.
 use Rattle.build.proofs.Building.{is-sized, width-narrow}
 use native.Mathlib.Omega.{arith}
 use borrow.Author.Needs.{needs}

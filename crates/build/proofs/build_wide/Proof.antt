@@ -1,3 +1,4 @@
+-- `build_wide` meets its contract: there is room for 136 codes.
 use Rattle.build.proofs.Building.{width-low}
 use native.Mathlib.Omega.{arith}
 use borrow.Author.Needs.{needs}

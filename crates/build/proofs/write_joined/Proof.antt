@@ -1,3 +1,4 @@
+-- `write_joined` meets its contract: joining, numbering and writing each begin with what the one before leaves.
 use Rattle.build.proofs.Finishing.{take-replicate, Classed, classed, order-low, order-length, numbers-length, numbers-table, order-below, rows-fit, rows-are}
 use Rattle.number.specs.Numbers.{Numbered}
 use Rattle.write.specs.Rows.{numberedRows}

@@ -1,3 +1,4 @@
+-- `clear` meets its contract: the sets passed so far are empty.
 use Rattle.explore.proofs.Rows.{Filling, filling-begun, filling-length, filling-turn, filling-done}
 use Rattle.explore.specs.Images.{noSet}
 use lib.ListN.{length, length-set}

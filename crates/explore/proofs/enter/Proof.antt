@@ -1,3 +1,4 @@
+-- `enter` meets its contract: the state is among those found, or goes after them.
 use Rattle.explore.proofs.Noting.{note-found, note-new}
 use native.Mathlib.Omega.{arith}
 use borrow.Author.Needs.{needs}

@@ -1,3 +1,4 @@
+-- `explore` meets its contract: the arrays are as long as the search asks.
 use lib.Seq.{length-take-le}
 use native.Mathlib.Omega.{arith}
 use mathlib.Core.Path.{sym}

@@ -1,3 +1,4 @@
+-- `explore_in` meets its contract: after s turns the first s situations have been visited.
 use Rattle.explore.proofs.Reaching.{Reaching, reaching-begun, reaches-from, reaching-long, reaching-row, reaching-over, reaching-turn, reaching-done}
 use Rattle.tables.proofs.Searched.{searched-room, searched-state}
 use Rattle.automaton.proofs.Loops.{part-is-drop}

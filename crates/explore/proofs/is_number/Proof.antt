@@ -1,3 +1,4 @@
+-- `is_number` meets its contract: a number that is no place fails at once.
 use borrow.Author.Tests.{lt-ltb, le-ltb, lt-leb, le-leb}
 use native.Mathlib.Omega.{arith}
 use borrow.Author.Needs.{needs}

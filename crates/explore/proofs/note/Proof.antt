@@ -1,3 +1,4 @@
+-- `note` meets its contract: each way out is a case of Noting.
 use Rattle.explore.proofs.Noting.{note-none, note-hint, noted-low}
 use borrow.Author.Tests.{eqb-true, eqb-false}
 use native.Mathlib.Omega.{arith}

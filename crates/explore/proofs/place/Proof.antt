@@ -1,3 +1,4 @@
+-- `place` meets its contract: none of those passed so far is the number sought.
 use mathlib.Core.Path.{_≡_}
 use Prim.Native.Nat.{ℕ, _≤_, _<_, _-_}
 use borrow.Author.Count.{below-more}

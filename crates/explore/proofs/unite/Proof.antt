@@ -1,3 +1,4 @@
+-- `unite` meets its contract: the sets passed so far are united.
 use Rattle.explore.proofs.Rows.{Filling, filling-begun, filling-length, filling-next, filling-turn, filling-done}
 use Rattle.explore.specs.Images.{unionAt}
 use lib.ListN.{length, getD, length-set}

@@ -1,3 +1,4 @@
+-- `visit` meets its contract: after c turns the codes below c have been tried.
 use Rattle.explore.proofs.Visiting.{Trying, trying-begun, trying-room, trying-once, trying-row, tried-low, trying-turn, trying-over, trying-done}
 use Rattle.explore.specs.Images.{imageOfSetIn, imagesMachine}
 use Rattle.automaton.specs.Machine.{step}

@@ -1,3 +1,4 @@
+-- `note_class` meets its contract: each way out is a case of Numbering.
 use Rattle.number.proofs.Numbering.{class-none, class-known, class-new}
 use borrow.Author.Needs.{needs}
 use Rattle.number.proofs.note_class.Statement.{statement}

@@ -1,3 +1,4 @@
+-- `number` meets its contract: after i turns the first i classes have been visited.
 use lib.ListN.{length, length-replicate}
 use mathlib.Core.List.{[]}
 use Rattle.number.proofs.Ordering.{Ordering, names-first, ordering-begun, ordering-few, ordering-length, ordering-inside, ordering-low, ordering-turn, ordering-done}

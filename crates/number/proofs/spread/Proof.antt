@@ -1,3 +1,4 @@
+-- `spread` meets its contract: the states passed so far have the numbers of their classes.
 use Rattle.number.proofs.Spreading.{Spreading, spreading-begun, spreading-low, spreading-turn, spreading-done}
 use lib.ListN.{length}
 use native.Mathlib.Omega.{arith}

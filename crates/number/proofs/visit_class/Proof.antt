@@ -1,3 +1,4 @@
+-- `visit_class` meets its contract: after c turns the codes below c have been tried.
 use Rattle.number.proofs.Classing.{joined-step, class-low, TryingClasses, classes-begun, classes-few, classes-room, classes-length, classes-numbers, classes-turn, classes-done}
 use Rattle.tables.proofs.TableBytes.{state-row, state-entry}
 use Rattle.number.specs.Numbers.{joinedIn}

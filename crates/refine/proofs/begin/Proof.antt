@@ -1,3 +1,4 @@
+-- `begin` meets its contract: the states passed so far are in class 1.
 use Prim.Native.Nat.{_≤_, _-_}
 use lib.Seq.{take-suc-set}
 use lib.ListN.{length, take, set, length-set}

@@ -1,3 +1,4 @@
+-- `first_alike` meets its contract: the states passed so far are before the class.
 use Rattle.refine.proofs.Rounds.{search-begins, search-ends, search-found, search-passed}
 use Rattle.refine.specs.Rounds.{nextRound}
 use Rattle.definitions.specs.Bytes.{byte}

@@ -1,3 +1,4 @@
+-- `next_class` meets its contract: a state that stays keeps its class, and for others the search is made.
 use mathlib.Core.Path.{sym, _∙_}
 use Prim.Native.Nat.{_≤_}
 use Rattle.definitions.specs.Bytes.{byte}

@@ -1,3 +1,4 @@
+-- `refine_all` meets its contract: there is room for a word for each state.
 use mathlib.Core.Path.{_≡_, sym}
 use Prim.Native.Nat.{ℕ, _-_, _≤_}
 use native.Mathlib.Omega.{arith}

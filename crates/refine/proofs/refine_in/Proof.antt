@@ -1,3 +1,4 @@
+-- `refine_in` meets its contract: each turn is a round, until one moves no state.
 use mathlib.Core.Path.{_≡_, sym, ap, _∙_}
 use Prim.Native.Nat.{ℕ}
 use native.Mathlib.Omega.{arith}

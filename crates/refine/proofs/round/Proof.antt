@@ -1,3 +1,4 @@
+-- `round` meets its contract: the states passed so far have their new classes, and the word has those that moved.
 use mathlib.Core.Path.{_≡_, refl, sym, ap, _∙_}
 use Prim.Native.Nat.{ℕ, _-_, _≤_}
 use native.Mathlib.Omega.{arith}

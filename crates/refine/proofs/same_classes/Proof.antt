@@ -1,3 +1,4 @@
+-- `same_classes` meets its contract: the entries passed so far lead to the same classes.
 use Rattle.refine.proofs.Rounds.{rows-same, rows-differ}
 use Rattle.definitions.specs.Bytes.{byte}
 use borrow.Author.Count.{below-more}

@@ -1,3 +1,4 @@
+-- `present_count` meets its contract: a field is present or absent.
 use borrow.Author.Tests.{lt-ltb, le-ltb}
 use borrow.Author.Needs.{needs}
 use Rattle.write.proofs.present_count.Statement.{statement}

@@ -1,3 +1,4 @@
+-- `write_book` meets its contract: the header, and then the rows.
 use Rattle.write.proofs.Writing.{book-done}
 use borrow.Author.Needs.{needs}
 use Rattle.write.proofs.write_book.Statement.{statement}

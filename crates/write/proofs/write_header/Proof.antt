@@ -1,3 +1,4 @@
+-- `write_header` meets its contract: its twelve bytes are stored one after another.
 use Rattle.write.proofs.Writing.{header-bytes}
 use native.Mathlib.Omega.{arith}
 use lib.ListN.{length-set}

@@ -1,3 +1,4 @@
+-- `write_row` meets its contract: the entries passed so far are written.
 use Rattle.definitions.specs.Bytes.{byte}
 use Rattle.write.proofs.Writing.{looked-length, row-turn}
 use Rattle.tables.proofs.Buffers.{length-written}

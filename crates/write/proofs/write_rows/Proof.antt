@@ -1,3 +1,4 @@
+-- `write_rows` meets its contract: the rows passed so far stand after the header.
 use Rattle.write.proofs.Writing.{numbered-count, numbered-part, numbered-wide, order-row}
 use Rattle.tables.proofs.TableBytes.{state-entries}
 use Rattle.automaton.proofs.Loops.{row-within, part-is-drop}

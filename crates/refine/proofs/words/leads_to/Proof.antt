@@ -1,3 +1,4 @@
+-- `leads_to` meets its contract: the word has the states that the entries passed so far lead to.
 use mathlib.Core.Path.{_≡_, refl}
 use Prim.Native.Nat.{_≤_, _-_}
 use native.Mathlib.Omega.{arith}

@@ -1,3 +1,4 @@
+-- `with_moved` meets its contract: a state that has its old class is not put in.
 use borrow.Author.Tests.{eq-eqb, ne-eqb}
 use borrow.Author.Needs.{needs}
 use Rattle.refine.proofs.words.with_moved.Statement.{statement}

@@ -1,3 +1,4 @@
+-- `with_state` meets its contract: the bit of a state is below 64.
 use Prim.Native.Nat.{_/_}
 use native.Mathlib.Omega.{arith}
 use Rattle.definitions.proofs.Sets.{one-shifted}
