@@ -1,16 +1,20 @@
--- Lists and folds over the numbers below a bound whose functions agree there, and machines that take the same steps: of one width and one start they are
+-- Tests, lists and folds over the numbers below a bound whose functions agree there, and machines that take the same steps: of one width and one start they are
 -- explored alike and have the same table.
 use mathlib.Core.Path.{_≡_, refl, ap, _∙_}
-use mathlib.Core.Bool.{cond}
+use mathlib.Core.Bool.{Bool, cond}
 use mathlib.Core.List.{List, [], _∷_, _++_, map}
 use Prim.Native.Nat.{ℕ, zero, suc, _<_}
 use native.Mathlib.Omega.{arith}
 use lib.Dec.{ltb}
 use lib.ListN.{length, getD}
-use Rattle.automaton.specs.Below.{listBelow, foldBelow}
+use Rattle.automaton.specs.Below.{allBelow, listBelow, foldBelow}
 use Rattle.automaton.specs.Machine.{Machine, step}
 use Rattle.automaton.specs.Explore.{Reached, numberIn, add, visit, unreached, explore, startOf, reached}
 use Rattle.automaton.specs.Table.{rowAt, table}
+
+pub all-below-same : (f g : ℕ → Bool) (n : ℕ) → ((k : ℕ) → k < n → f k ≡ g k) → allBelow n f ≡ allBelow n g
+all-below-same f g zero h = refl
+all-below-same f g (suc n) h = rw (all-below-same f g n (λ k l. h k (omega arith)), h n (omega arith))
 
 pub list-below-same : {A : Type 0} (f g : ℕ → A) (n : ℕ) → ((k : ℕ) → k < n → f k ≡ g k) → listBelow n f ≡ listBelow n g
 list-below-same f g zero h = refl

@@ -1,18 +1,18 @@
--- What the tests, lists and places over the numbers below a bound mean, and how many numbers below a bound pass a test. Distinct numbers below n are at
--- most n.
+-- What the tests, lists, places and greatest values over the numbers below a bound mean, and how many numbers below a bound pass a test. Distinct numbers
+-- below n are at most n.
 use mathlib.Core.Path.{_≡_, refl, ap, sym, _∙_}
 use mathlib.Core.Bool.{Bool, cond, true, false, true≢false, false≢true, _&&_, _||_}
 use mathlib.Core.Logic.{_⊎_, inl, inr}
 use mathlib.Core.List.{List, [], _∷_, _++_}
-use Prim.Native.Nat.{ℕ, zero, suc, _+_, _≤_, _<_}
+use Prim.Native.Nat.{ℕ, zero, suc, _+_, _≤_, _<_, max}
 use native.Mathlib.Nat.{not-suc-le-zero}
 use native.Mathlib.Omega.{arith}
 use native.Mathlib.Decide.{decLt}
-use lib.Dec.{eqb, ltb}
+use lib.Dec.{T, eqb, ltb}
 use lib.ListN.{length, getD, length-append, List·getD-append}
 use lib.Seq.{getD-at}
 use borrow.Author.Tests.{eqb-true, eq-eqb, ltb-true, ltb-false}
-use Rattle.automaton.specs.Below.{allBelow, anyBelow, lowestBelow, listBelow, sameList, oneOn, placeOf}
+use Rattle.automaton.specs.Below.{allBelow, anyBelow, lowestBelow, foldBelow, listBelow, sameList, oneOn, placeOf}
 
 -- a number below n + 1 is below n or is n
 pub below-suc : (k n : ℕ) → k < suc n → (k < n) ⊎ (k ≡ n)
@@ -21,6 +21,10 @@ below-suc k n l = go (decLt k n)
     go : Dec (k < n) → (k < n) ⊎ (k ≡ n)
     go (yes p) = inl p
     go (no p) = inr (omega arith)
+
+pub is-true : (t : Bool) → T t → t ≡ true
+is-true true u = refl
+is-true false u = absurd u
 
 pub and-true : (a b : Bool) → (a && b) ≡ true → (a ≡ true) × (b ≡ true)
 and-true true b e = (refl, e)
@@ -93,6 +97,23 @@ module _ (f : ℕ → Bool) where
       go : Dec (k < lowestBelow n f) → lowestBelow n f ≤ k
       go (yes p) = absurd (true≢false (sym e ∙ lowest-below n .first k p))
       go (no p) = omega arith
+
+-- the greatest of the first n values of f
+module _ (f : ℕ → ℕ) where
+  abbrev pub greatestBelow : ℕ → ℕ
+  greatestBelow n = foldBelow n 0 (λ k most. max most (f k))
+
+  pub greatest-below : (n k : ℕ) → k < n → f k ≤ greatestBelow n
+  greatest-below zero k l = absurd (not-suc-le-zero l)
+  greatest-below (suc n) k l = go (greatest-below n k) (below-suc k n l)
+    where
+      go : (k < n → f k ≤ greatestBelow n) → (k < n) ⊎ (k ≡ n) → f k ≤ greatestBelow (suc n)
+      go ih (inl p) = omega (arith, ih p)
+      go ih (inr e) = rw e (omega arith)
+
+  pub greatest-below-least : (n most : ℕ) → ((k : ℕ) → k < n → f k ≤ most) → greatestBelow n ≤ most
+  greatest-below-least zero most h = omega arith
+  greatest-below-least (suc n) most h = omega (arith, greatest-below-least n most (λ k l. h k (omega arith)), h n (omega arith))
 
 module _ {A : Type 0} (f : ℕ → A) where
   pub length-list-below : (n : ℕ) → length (listBelow n f) ≡ n

@@ -4,7 +4,7 @@ use mathlib.Core.Path.{_≡_, refl, sym, ap, _∙_, subst}
 use mathlib.Core.Bool.{Bool, cond, true, false, false≢true}
 use mathlib.Core.Logic.{_⊎_, inl, inr}
 use mathlib.Core.List.{List, [], _∷_, _++_, append-assoc, append-nil}
-use mathlib.Core.Option.{Option, none, some}
+use mathlib.Core.Option.{none, some}
 use Prim.Native.Nat.{ℕ, zero, suc, _≤_, _<_}
 use native.Mathlib.Nat.{not-suc-le-zero, le-of-suc-le-suc}
 use native.Mathlib.Omega.{arith}
@@ -163,12 +163,10 @@ module _ (m : Machine) where
   visited-reached most = reached-ends m (Visited m) visited-turn most visited-start
 
 -- ---- every state with its earliest history
--- the start has number 1; each state stands once, with a history that leads to it, shorter than its number; the histories are in order; and every
--- possible history leads to a state found, by a history that is not later
+-- each is a state, with a history that leads to it and that has no more codes than there are states before it; the histories are in order; and every possible
+-- history leads to a state found, by a history that is not later
 pub record Explored (m : Machine) (found : List Reached) : Type 0 where
-  pub starts : numberIn found (m .start) ≡ 1
   pub leads : (k : ℕ) → k < length found → after m (m .start) (historyAt found k) ≡ stateAt found k
-  pub once : (k : ℕ) → k < length found → numberIn found (stateAt found k) ≡ suc k
   pub states : (k : ℕ) → k < length found → isState (stateAt found k) ≡ true
   pub short : (k : ℕ) → k < length found → length (historyAt found k) ≤ k
   pub inOrder : (j k : ℕ) → j < k → k < length found → Earlier (historyAt found j) (historyAt found k)
@@ -215,9 +213,7 @@ module _ (m : Machine) (most : ℕ) (begins : isState (m .start) ≡ true) where
 
     pub reached-explored : Explored m found
     reached-explored = record {
-      starts = ap (λ (t : Reached). numberIn found (t .state)) (sym (sound .first)) ∙ sound .once 0 (sound .some);
       leads = reached-leads m most begins;
-      once = sound .once;
       states = sound .states;
       short = reached-short m most begins;
       inOrder = reached-sorted;
@@ -298,11 +294,3 @@ module _ (test : ℕ → Bool) where
     -- where there is none, no possible history passes
     pub first-none : firstThat test found ≡ none → (h : History) → Passes m test h → ⊥
     first-none e h p = let r = E .covers h (p .0) in false≢true (sym (none-passes found e (r .0) (r .1)) ∙ ap test (r .2) ∙ p .1)
-
-    -- and where one passes, there is a first
-    pub first-some : (h : History) → Passes m test h → (t : Reached) × (firstThat test found ≡ some t)
-    first-some h p = go (firstThat test found) refl
-      where
-        go : (o : Option Reached) → firstThat test found ≡ o → (t : Reached) × (o ≡ some t)
-        go none e = absurd (first-none e h p)
-        go (some t) e = (t, refl)

@@ -14,7 +14,7 @@ use borrow.Author.Tests.{eqb-true, eq-eqb, ltb-true, ltb-false}
 use Rattle.automaton.specs.History.{History}
 use Rattle.automaton.specs.Machine.{Machine, step, after, isState}
 use Rattle.automaton.specs.Explore.{Reached, isAt, numberIn, add, visit, unreached, explore, startOf, reached}
-use Rattle.automaton.proofs.Machines.{after-append}
+use Rattle.automaton.proofs.Machines.{after-append, state-is}
 use Rattle.automaton.proofs.Counting.{below-suc, place-hit, place-append, place-end, distinct-below}
 
 abbrev pub stateAt : List Reached → ℕ → ℕ
@@ -219,11 +219,7 @@ module _ (m : Machine) (found : List Reached) (sound : Sound m found) where
       goes j k c b l e = omega (arith, length-append (historyAt found j) (c ∷ []))
 
   sound-above : (k : ℕ) → k < length found → 1 ≤ stateAt found k
-  sound-above k l = go (stateAt found k) (sound .states k l)
-    where
-      go : (s : ℕ) → isState s ≡ true → 1 ≤ s
-      go zero p = absurd (false≢true p)
-      go (suc s) p = omega arith
+  sound-above k l = state-is (stateAt found k) (sound .states k l)
 
   sound-apart : (j k : ℕ) → j < k → k < length found → stateAt found j ≡ stateAt found k → ⊥
   sound-apart j k b l e = omega (arith, sym (sound .once j (omega arith)) ∙ ap (numberIn found) e ∙ sound .once k l)
@@ -247,7 +243,7 @@ module _ (m : Machine) (most : ℕ) (begins : isState (m .start) ≡ true) where
   pub reached-leads : (k : ℕ) → k < length (reached m most) → after m (m .start) (historyAt (reached m most) k) ≡ stateAt (reached m most) k
   reached-leads = sound-leads m (reached m most) reached-sound
 
-  -- and has at most as many codes as there are states before, each below the width
+  -- and has at most as many codes as there are states before it
   pub reached-short : (k : ℕ) → k < length (reached m most) → length (historyAt (reached m most) k) ≤ k
   reached-short = sound-length m (reached m most) reached-sound
 

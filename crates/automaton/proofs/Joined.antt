@@ -1,16 +1,16 @@
 -- The joined machine: it has the histories of its table, its states are the numbers of the table's classes, and no two of them are alike.
 use mathlib.Core.Path.{_≡_, refl, sym, ap, _∙_}
 use mathlib.Core.Bool.{Bool, cond, true, false}
-use mathlib.Core.List.{List, [], _∷_}
+use mathlib.Core.List.{List}
 use Prim.Native.Nat.{ℕ, zero, suc, _≤_}
 use native.Mathlib.Omega.{arith}
 use lib.Dec.{ltb}
 use lib.ListN.{length}
 use Rattle.automaton.specs.History.{History}
-use Rattle.automaton.specs.Machine.{step, after, isState, possible, possibleFrom, Alike}
+use Rattle.automaton.specs.Machine.{step, after, isState, possibleFrom, SameHistories, Alike}
 use Rattle.automaton.specs.Table.{entryIn, tabled}
 use Rattle.automaton.specs.Join.{classOf, classes, joinedBy, joined}
-use Rattle.automaton.proofs.Machines.{after-map-on, alike-step}
+use Rattle.automaton.proofs.Machines.{after-keeps, after-map-on, alike-step}
 use Rattle.automaton.proofs.WellFormed.{IsTable, step-inside, after-inside}
 use Rattle.automaton.proofs.Refining.{class-of-start}
 use Rattle.automaton.proofs.Settled.{classes-named, classes-alike}
@@ -40,8 +40,7 @@ module _ (w : ℕ) (rows : List (List ℕ)) (ok : IsTable w rows) where
       rw (joined-by-step (classes rows) w rows a c) (class-is-class (step (tabled w rows) a c) (step-inside w rows ok a c))
 
   pub joined-after-class : (a : ℕ) (h : History) → IsClass rows a → IsClass rows (after (joined w rows) a h)
-  joined-after-class a [] p = p
-  joined-after-class a (c ∷ h) p = joined-after-class (step (joined w rows) a c) h (joined-step-class a c)
+  joined-after-class a h p = after-keeps (joined w rows) (IsClass rows) joined-step-class a p h
 
   joined-step : (x c : ℕ) → x ≤ length rows → classOf (classes rows) (step (tabled w rows) x c) ≡ step (joined w rows) (classOf (classes rows) x) c
   joined-step x c l =
@@ -64,7 +63,7 @@ module _ (w : ℕ) (rows : List (List ℕ)) (ok : IsTable w rows) where
   joined-start = class-of-start (length rows) (classes rows) (classes-named w rows ok) (ok .some)
 
   -- the joined machine has the histories of its table
-  pub joined-possible : (h : History) → possible (joined w rows) h ≡ possible (tabled w rows) h
+  pub joined-possible : SameHistories (joined w rows) (tabled w rows)
   joined-possible h = ap (λ (s : ℕ). possibleFrom (joined w rows) s h) (sym joined-start) ∙ joined-alike 1 (ok .some) h
 
   -- no two classes are alike

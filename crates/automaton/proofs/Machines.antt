@@ -13,6 +13,15 @@ use borrow.Author.Tests.{le-ltb}
 use Rattle.automaton.specs.History.{History}
 use Rattle.automaton.specs.Machine.{Machine, step, after, isState, possibleFrom, Alike, inOne}
 
+-- states are the numbers above 0
+pub is-state : (s : ℕ) → 1 ≤ s → isState s ≡ true
+is-state zero l = absurd (not-suc-le-zero l)
+is-state (suc s) l = refl
+
+pub state-is : (s : ℕ) → isState s ≡ true → 1 ≤ s
+state-is zero p = absurd (false≢true p)
+state-is (suc s) p = omega arith
+
 pub step-past : (m : Machine) (s c : ℕ) → m .width ≤ c → step m s c ≡ 0
 step-past m zero c h = refl
 step-past m (suc s) c h = rw (le-ltb c (m .width) h)
@@ -45,6 +54,11 @@ pub possible-codes : (m : Machine) (s : ℕ) (h : History) → possibleFrom m s 
 possible-codes m s [] p i l = absurd (not-suc-le-zero l)
 possible-codes m s (c ∷ h) p zero l = step-within m s c (possible-state m (step m s c) h p)
 possible-codes m s (c ∷ h) p (suc i) l = possible-codes m (step m s c) h p i (le-of-suc-le-suc l)
+
+-- what holds of a state and wherever a step leads holds wherever a history leads
+pub after-keeps : (m : Machine) (P : ℕ → Type 0) → ((s c : ℕ) → P (step m s c)) → (s : ℕ) → P s → (h : History) → P (after m s h)
+after-keeps m P steps s p [] = p
+after-keeps m P steps s p (c ∷ h) = after-keeps m P steps (step m s c) (steps s c) h
 
 -- a map of states that goes with the steps, on a set of states that the steps do not leave, goes with the histories
 pub after-map-on : (A B : Machine) (f : ℕ → ℕ) (P : ℕ → Type 0)

@@ -1,5 +1,5 @@
 -- The smallest table with the histories of a table: it is tidy, so tables with the same histories have the same smallest table, and none of them has
--- fewer rows. It ends in the rows built for a machine: machines of one width have the same rows exactly if they have the same histories.
+-- fewer rows. It ends in the rows built for a machine: machines of one width with the same histories have the same rows.
 use mathlib.Core.Path.{_≡_, refl, sym, _∙_, subst}
 use mathlib.Core.Bool.{true}
 use mathlib.Core.List.{List}
@@ -7,25 +7,25 @@ use Prim.Native.Nat.{ℕ, _≤_}
 use native.Mathlib.Omega.{arith}
 use lib.ListN.{length}
 use Rattle.automaton.specs.History.{History}
-use Rattle.automaton.specs.Machine.{Machine, after, isState, possible, Alike}
+use Rattle.automaton.specs.Machine.{Machine, after, isState, SameHistories, Alike}
 use Rattle.automaton.specs.Explore.{reached}
 use Rattle.automaton.specs.Table.{table, tabled}
 use Rattle.automaton.specs.Join.{joined, minimal}
 use Rattle.automaton.proofs.WellFormed.{IsTable}
 use Rattle.automaton.proofs.Exploring.{reached-few}
 use Rattle.automaton.proofs.Joined.{IsClass, joined-step-class, joined-after-class, joined-start, joined-possible, joined-distinct}
-use Rattle.automaton.proofs.Tidy.{TidyRows, SameHistories, tidy-rows-unique}
+use Rattle.automaton.proofs.Tidy.{TidyRows, tidy-rows-unique}
 use Rattle.automaton.proofs.Tables.{table-length, table-is-table, table-tidy, table-histories}
 
 -- a tidy table of width w with the histories of m
 pub record TidyTableOf (w : ℕ) (m : Machine) (rows : List (List ℕ)) : Type 0 where
   pub isTable : IsTable w rows
   pub tidy : TidyRows w rows
-  pub histories : (h : History) → possible (tabled w rows) h ≡ possible m h
+  pub histories : SameHistories (tabled w rows) m
 
--- machines have the same tidy table exactly if they have the same histories
+-- machines with the same histories have the same tidy table
 module _ (w : ℕ) (m n : Machine) (A B : List (List ℕ)) (a : TidyTableOf w m A) (b : TidyTableOf w n B) where
-  pub tidy-table-unique : ((h : History) → possible m h ≡ possible n h) → A ≡ B
+  pub tidy-table-unique : SameHistories m n → A ≡ B
   tidy-table-unique same =
       tidy-rows-unique w A B (a .isTable) (b .isTable) (a .tidy) (b .tidy) (λ h. a .histories h ∙ same h ∙ sym (b .histories h))
 
@@ -67,12 +67,12 @@ module _ (w : ℕ) (rows : List (List ℕ)) (ok : IsTable w rows) where
   tidy-of-minimal e = subst (TidyRows w) e (minimal-tidy-table .tidy)
 
 module _ (w : ℕ) (A B : List (List ℕ)) (okA : IsTable w A) (okB : IsTable w B) where
-  -- tables of one width have the same smallest table exactly if they have the same histories
-  pub minimal-unique : SameHistories w A B → minimal w A ≡ minimal w B
+  -- tables of one width with the same histories have the same smallest table
+  pub minimal-unique : SameHistories (tabled w A) (tabled w B) → minimal w A ≡ minimal w B
   minimal-unique = tidy-table-unique w (tabled w A) (tabled w B) (minimal w A) (minimal w B) (minimal-tidy-table w A okA) (minimal-tidy-table w B okB)
 
   -- no table with the histories of A has fewer rows
-  pub fewest : SameHistories w A B → length (minimal w A) ≤ length B
+  pub fewest : SameHistories (tabled w A) (tabled w B) → length (minimal w A) ≤ length B
   fewest same = rw (minimal-unique same) (minimal-length w B okB)
 
 -- ---- the rows built for a machine
@@ -96,6 +96,6 @@ module _ (m n : Machine) (widths : m .width ≡ n .width) (most : ℕ) (begins-m
   built-n : TidyTableOf (m .width) n (rowsFor n most)
   built-n = subst (λ (w : ℕ). TidyTableOf w n (rowsFor n most)) (sym widths) (built n most begins-n enough-n)
 
-  -- machines of one width have the same rows exactly if they have the same histories
-  pub built-unique : ((h : History) → possible m h ≡ possible n h) → rowsFor m most ≡ rowsFor n most
+  -- machines of one width with the same histories have the same rows
+  pub built-unique : SameHistories m n → rowsFor m most ≡ rowsFor n most
   built-unique = tidy-table-unique (m .width) m n (rowsFor m most) (rowsFor n most) (built m most begins-m enough-m) built-n

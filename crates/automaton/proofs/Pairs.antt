@@ -18,19 +18,11 @@ use Rattle.automaton.specs.Machine.{Machine, step, after, isState, Alike
 use Rattle.automaton.specs.Explore.{Reached, reached, firstThat}
 use Rattle.automaton.specs.Pair.{pair, beside, differsBy, differs, lastCode, difference}
 use Rattle.automaton.proofs.Order.{earlier-append, not-later-trans, not-later-code, not-later-longer}
-use Rattle.automaton.proofs.Machines.{step-past, after-zero, ToldApart, alike-of-not-told-apart}
-use Rattle.automaton.proofs.Counting.{any-below, any-below-at, lowest-below, lowest-below-le}
+use Rattle.automaton.proofs.Machines.{is-state, step-past, after-zero, ToldApart, alike-of-not-told-apart}
+use Rattle.automaton.proofs.Counting.{is-true, any-below, any-below-at, lowest-below, lowest-below-le}
 use Rattle.automaton.proofs.Exploring.{reached-few}
 use Rattle.automaton.proofs.Earliest.{Passes, Explored, reached-explored, first-earliest, first-none}
 use Rattle.automaton.proofs.Separating.{HasStates, Separates, Answers, answers-unique, after-within, separates-after, earliest-short, earliest-some}
-
-is-true : (t : Bool) → T t → t ≡ true
-is-true true u = refl
-is-true false u = absurd u
-
-is-state : (s : ℕ) → 1 ≤ s → isState s ≡ true
-is-state zero p = absurd (omega arith)
-is-state (suc s) p = refl
 
 step-state : (m : Machine) (s c : ℕ) → 1 ≤ s → step m s c ≡ cond (ltb c (m .width)) (m .next s c) 0
 step-state m zero c p = absurd (omega arith)

@@ -2,7 +2,7 @@
 -- class has the number of its first state.
 use mathlib.Core.Path.{_≡_, refl, sym, ap, _∙_}
 use mathlib.Core.Logic.{_↔_, Iff·trans}
-use mathlib.Core.Bool.{true, true≢false, false≢true}
+use mathlib.Core.Bool.{true≢false, false≢true}
 use mathlib.Core.List.{List, [], _∷_, map}
 use Prim.Native.Nat.{ℕ, zero, suc, _≤_, _<_}
 use native.Mathlib.Omega.{arith}
@@ -15,6 +15,7 @@ use Rattle.automaton.specs.Machine.{Machine, step, isState, possibleFrom
 use Rattle.automaton.specs.Table.{tabled}
 use Rattle.automaton.specs.Join.{classOf, classRows, firstLike, refine, together, classesAfter}
 use Rattle.automaton.proofs.Counting.{place-found, place-hit, same-list-refl, same-list-true}
+use Rattle.automaton.proofs.Machines.{is-state, state-is}
 use Rattle.automaton.proofs.WellFormed.{IsTable, getD-map-within, step-entry, step-inside}
 
 -- the same histories of at most k codes are possible from x and y
@@ -37,12 +38,7 @@ pub record NamedByFirst (n : ℕ) (cs : List ℕ) : Type 0 where
   pub own : (x : ℕ) → x ≤ n → classOf cs (classOf cs x) ≡ classOf cs x
 
 pub class-positive : (n : ℕ) (cs : List ℕ) → NamedByFirst n cs → (x : ℕ) → 1 ≤ x → x ≤ n → 1 ≤ classOf cs x
-class-positive n cs named zero h l = absurd (not-suc-le-zero h)
-class-positive n cs named (suc s) h l = go (classOf cs (suc s)) (named .state (suc s) l)
-  where
-    go : (k : ℕ) → isState k ≡ true → 1 ≤ k
-    go zero e = absurd (false≢true e)
-    go (suc k) e = omega arith
+class-positive n cs named x h l = state-is (classOf cs x) (named .state x l ∙ is-state x h)
 
 -- the start is a class
 pub class-of-start : (n : ℕ) (cs : List ℕ) → NamedByFirst n cs → 1 ≤ n → classOf cs 1 ≡ 1

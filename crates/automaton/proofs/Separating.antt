@@ -13,7 +13,7 @@ use borrow.Author.Tests.{le-leb, lt-leb}
 use Rattle.automaton.specs.History.{History, NotLater, Earliest}
 use Rattle.automaton.specs.Machine.{Machine, step, after, isState, possibleFrom, possible, Alike, inOne}
 use Rattle.automaton.proofs.Order.{earliest-unique}
-use Rattle.automaton.proofs.Machines.{after-append, after-zero, ToldApart, not-told-apart-of-alike}
+use Rattle.automaton.proofs.Machines.{after-append, after-zero, after-keeps, ToldApart, not-told-apart-of-alike}
 use Rattle.automaton.proofs.Counting.{count-below-le}
 use Rattle.automaton.proofs.Labels.{Among, Rooted, Divides, labels, ownLabel, merge, own-rooted, own-undivided, some-label, merge-rooted, merge-fewer, merge-divides}
 
@@ -44,8 +44,7 @@ answers-unique A B (some h) none r s = absurd (not-told-apart-of-alike A (A .sta
 answers-unique A B (some h) (some k) r s = ap some (earliest-unique (Separates A B) h k r s)
 
 pub after-within : (m : Machine) (n : ℕ) → HasStates m n → (s : ℕ) → s ≤ n → (h : History) → after m s h ≤ n
-after-within m n states s l [] = l
-after-within m n states s l (c ∷ h) = after-within m n states (step m s c) (states .steps s c) h
+after-within m n states s l h = after-keeps m (λ t. t ≤ n) (states .steps) s l h
 
 -- the empty history is possible from states, and not from 0
 pub states-apart : (x y : ℕ) → ((1 ≤ x) × (y ≡ 0)) ⊎ ((x ≡ 0) × (1 ≤ y)) → T (inOne (isState x) (isState y))

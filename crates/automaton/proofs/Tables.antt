@@ -10,13 +10,13 @@ use native.Mathlib.Decide.{decLt}
 use lib.ListN.{length, getD, length-map, List·getD-eq-default}
 use Rattle.automaton.specs.Below.{listBelow}
 use Rattle.automaton.specs.History.{History, Earlier, NotLater, Earliest}
-use Rattle.automaton.specs.Machine.{Machine, step, after, isState, possible, possibleFrom, Alike}
+use Rattle.automaton.specs.Machine.{Machine, step, after, isState, possibleFrom, SameHistories, Alike}
 use Rattle.automaton.specs.Explore.{Reached, numberIn, unreached, reached}
 use Rattle.automaton.specs.Table.{rowOf, rowAt, table, entryIn, tabled}
 use Rattle.automaton.proofs.Order.{tri, earlier-irrefl, earlier-trans, earlier-tri, earlier-append, earlier-code, earlier-not-later}
 use Rattle.automaton.proofs.Machines.{step-past, after-map-on}
 use Rattle.automaton.proofs.Counting.{length-list-below, getD-list-below}
-use Rattle.automaton.proofs.WellFormed.{IsTable, getD-map-within, entry-beyond, step-entry, step-inside, after-inside}
+use Rattle.automaton.proofs.WellFormed.{Wide, IsTable, getD-map-within, entry-beyond, step-entry, step-inside, after-inside}
 use Rattle.automaton.proofs.Exploring.{stateAt, historyAt, number-hit, Sound, Follows, reached-sound}
 use Rattle.automaton.proofs.Earliest.{FoundBy, Explored, reached-explored, reached-closed}
 use Rattle.automaton.proofs.Tidy.{Before, Ordered, Tidy}
@@ -48,12 +48,16 @@ module _ (m : Machine) (found : List Reached) where
   pub table-length : length (table m found) ≡ length found
   table-length = length-map found (rowAt m found)
 
-  row-at : (k : ℕ) → k < length found → getD (table m found) k [] ≡ rowOf m found (stateAt found k)
-  row-at k l = getD-map-within (rowAt m found) found k unreached [] l
+  pub row-of-table : (k : ℕ) → k < length found → getD (table m found) k [] ≡ rowOf m found (stateAt found k)
+  row-of-table k l = getD-map-within (rowAt m found) found k unreached [] l
+
+  pub table-wide : Wide (m .width) (table m found)
+  table-wide k l =
+      ap length (row-of-table k (omega (arith, table-length))) ∙ length-list-below (λ c. numberIn found (step m (stateAt found k) c)) (m .width)
 
   -- an entry is the number of the state that the code leads to
   entry-at : (k c : ℕ) → k < length found → entryIn (table m found) (suc k) c ≡ numberIn found (step m (stateAt found k) c)
-  entry-at k c l = ap (λ (row : List ℕ). getD row c 0) (row-at k l) ∙ go (decLt c (m .width))
+  entry-at k c l = ap (λ (row : List ℕ). getD row c 0) (row-of-table k l) ∙ go (decLt c (m .width))
     where
       entry : ℕ → ℕ
       entry c = numberIn found (step m (stateAt found k) c)
@@ -97,8 +101,7 @@ module _ (m : Machine) (most : ℕ) (begins : isState (m .start) ≡ true) (enou
   pub table-is-table : IsTable (m .width) rows
   table-is-table = record {
     some = omega (arith, sound .some, table-length m found);
-    wide = λ k l. ap length (row-at m found k (omega (arith, table-length m found)))
-        ∙ length-list-below (λ c. numberIn found (step m (stateAt found k) c)) (m .width);
+    wide = table-wide m found;
     inside = entry-inside m found;
   }
 
@@ -114,9 +117,9 @@ module _ (m : Machine) (most : ℕ) (begins : isState (m .start) ≡ true) (enou
   number-of zero l = refl
   number-of (suc k) l = sound .once k l
 
-  state-is : (n : ℕ) → n ≤ length found → isState (stateOf found n) ≡ isState n
-  state-is zero l = refl
-  state-is (suc k) l = sound .states k l
+  number-state : (n : ℕ) → n ≤ length found → isState (stateOf found n) ≡ isState n
+  number-state zero l = refl
+  number-state (suc k) l = sound .states k l
 
   -- a step in the table goes with a step of the machine
   state-step : (n c : ℕ) → n ≤ length found → stateOf found (step M n c) ≡ step m (stateOf found n) c
@@ -136,13 +139,13 @@ module _ (m : Machine) (most : ℕ) (begins : isState (m .start) ≡ true) (enou
   after-low n l h = omega (arith, after-inside (m .width) rows table-is-table n h (omega (arith, table-length m found)), table-length m found)
 
   number-alike : (n : ℕ) → n ≤ length found → Alike M n m (stateOf found n)
-  number-alike n l h = sym (state-is (after M n h) (after-low n l h)) ∙ ap isState (state-after n l h)
+  number-alike n l h = sym (number-state (after M n h) (after-low n l h)) ∙ ap isState (state-after n l h)
 
   start-is : stateOf found 1 ≡ m .start
   start-is = ap (λ (t : Reached). t .state) (sound .first)
 
   -- the table has the machine's histories
-  pub table-histories : (h : History) → possible M h ≡ possible m h
+  pub table-histories : SameHistories M m
   table-histories h = number-alike 1 (sound .some) h ∙ ap (λ (s : ℕ). possibleFrom m s h) start-is
 
   -- where a history leads in the table

@@ -7,8 +7,7 @@ use Prim.Native.Nat.{ℕ, zero, suc, _≤_, _<_}
 use native.Mathlib.Omega.{arith}
 use lib.ListN.{length, getD}
 use lib.Seq.{ext-getD}
-use Rattle.automaton.specs.History.{History}
-use Rattle.automaton.specs.Machine.{Machine, step, possible, Alike}
+use Rattle.automaton.specs.Machine.{Machine, step, SameHistories, Alike}
 use Rattle.automaton.specs.Table.{tabled}
 use Rattle.automaton.proofs.Order.{tri}
 use Rattle.automaton.proofs.Machines.{zeros-alike, alike-step}
@@ -124,10 +123,6 @@ module _ (A B : Machine) (n k : ℕ) (TA : Tidy A n) (TB : Tidy B k) (start : Al
 abbrev pub TidyRows : ℕ → List (List ℕ) → Type 0
 TidyRows w rows = Tidy (tabled w rows) (length rows)
 
--- the same histories are possible in two tables of width w
-abbrev pub SameHistories : ℕ → List (List ℕ) → List (List ℕ) → Type 0
-SameHistories w A B = (h : History) → possible (tabled w A) h ≡ possible (tabled w B) h
-
 module _ (w : ℕ) (A B : List (List ℕ)) (okA : IsTable w A) (okB : IsTable w B) where
   -- tables of one width with the same number of rows and the same steps are equal
   rows-equal : length A ≡ length B → ((s c : ℕ) → s ≤ length A → step (tabled w A) s c ≡ step (tabled w B) s c) → A ≡ B
@@ -137,7 +132,7 @@ module _ (w : ℕ) (A B : List (List ℕ)) (okA : IsTable w A) (okB : IsTable w 
       sym (step-entry w A okA (suc s) c) ∙ same (suc s) c l ∙ step-entry w B okB (suc s) c
 
   -- the histories fix a tidy table
-  pub tidy-rows-unique : TidyRows w A → TidyRows w B → SameHistories w A B → A ≡ B
+  pub tidy-rows-unique : TidyRows w A → TidyRows w B → SameHistories (tabled w A) (tabled w B) → A ≡ B
   tidy-rows-unique TA TB same =
       let r = tidy-unique (tabled w A) (tabled w B) (length A) (length B) TA TB same in
       rows-equal (r .0) (r .1)

@@ -13,10 +13,15 @@ use borrow.Author.Tests.{ltb-false}
 use Rattle.automaton.specs.History.{History}
 use Rattle.automaton.specs.Machine.{step, after}
 use Rattle.automaton.specs.Table.{entryIn, tabled}
+use Rattle.automaton.proofs.Machines.{after-keeps}
+
+-- every row has w entries
+abbrev pub Wide : ℕ → List (List ℕ) → Type 0
+Wide w rows = (s : ℕ) → s < length rows → length (getD rows s []) ≡ w
 
 pub record IsTable (w : ℕ) (rows : List (List ℕ)) : Type 0 where
   pub some : 1 ≤ length rows
-  pub wide : (s : ℕ) → s < length rows → length (getD rows s []) ≡ w
+  pub wide : Wide w rows
   pub inside : (s c : ℕ) → entryIn rows s c ≤ length rows
 
 -- a place of a mapped list, whatever stands for the places past its end
@@ -56,5 +61,4 @@ module _ (w : ℕ) (rows : List (List ℕ)) (ok : IsTable w rows) where
   step-inside s c = rw (step-entry s c) (ok .inside s c)
 
   pub after-inside : (s : ℕ) (h : History) → s ≤ length rows → after (tabled w rows) s h ≤ length rows
-  after-inside s [] l = l
-  after-inside s (c ∷ h) l = after-inside (step (tabled w rows) s c) h (step-inside s c)
+  after-inside s h l = after-keeps (tabled w rows) (λ t. t ≤ length rows) step-inside s l h

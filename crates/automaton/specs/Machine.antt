@@ -34,6 +34,10 @@ possibleFrom m s h = isState (after m s h)
 abbrev pub possible : Machine → History → Bool
 possible m h = possibleFrom m (m .start) h
 
+-- the same histories are possible in two machines
+abbrev pub SameHistories : Machine → Machine → Type 0
+SameHistories A B = (h : History) → possible A h ≡ possible B h
+
 -- "alike if the same histories are possible from each": x in A and y in B (Myhill-Nerode equivalence)
 abbrev pub Alike : Machine → ℕ → Machine → ℕ → Type 0
 Alike A x B y = (h : History) → possibleFrom A x h ≡ possibleFrom B y h

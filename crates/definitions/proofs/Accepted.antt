@@ -1,11 +1,9 @@
 -- What acceptance gives: the plain facts about a policy that is not turned down, and about a book that the checks pass, for which they are also enough.
--- Records and rows lie within files of the exact length.
 use mathlib.Core.Path.{_≡_, refl}
 use mathlib.Core.Bool.{true, _&&_, _||_}
 use mathlib.Core.Logic.{_↔_, _⊎_, inl, inr}
 use mathlib.Core.List.{List}
-use Prim.Native.Nat.{ℕ, zero, suc, _+_, _-_, _*_, _^_, _≤_, _<_}
-use native.Mathlib.Nat.{mul-le-mul-right, suc-mul}
+use Prim.Native.Nat.{ℕ, zero, suc, _+_, _*_, _^_, _≤_, _<_}
 use native.Mathlib.Omega.{arith}
 use native.Mathlib.Decide.{decLt}
 use lib.Dec.{leb, eqb}
@@ -14,7 +12,7 @@ use borrow.Author.Tests.{leb-true, ltb-true, eqb-true, le-leb, lt-leb, lt-ltb, l
 use Rattle.automaton.specs.Below.{allBelow}
 use Rattle.automaton.proofs.Counting.{and-true, or-true, all-below, all-below-at}
 use Rattle.definitions.specs.Bytes.{byte, hasMark, hasVersion1}
-use Rattle.definitions.specs.Policy.{events, fields, variables, rules, count, requests, width, ruleSize, exactLength, rule, mask, decision, ge, lt, change, eventChange}
+use Rattle.definitions.specs.Policy.{events, fields, variables, rules, count, requests, width, exactLength, rule, mask, decision, ge, lt, change, eventChange}
 use Rattle.definitions.specs.Valuation.{valuations}
 use Rattle.definitions.specs.Book as B
 use Rattle.definitions.specs.Refusal.{rangesHold, countInRange, countsHold, maskHolds, ruleMasksHold, masksHold, testHolds, ruleHolds, eventChangeHolds, eventHolds, valuesHold, row10, row9, row8, row7, row6, row5, row4, row3, fileRefusal, situations, row11, policyRefusal, countHolds, layoutHolds, entryHolds, rowHolds, entriesHold, row14, row13, bookRefusal}
@@ -49,11 +47,6 @@ pub record FileAccepted (p : List ℕ) : Type 0 where
   pub eventChangeMost : (e j : ℕ) → e < events p → j < variables p → eventChange p e j ≤ 2
   pub valuationsSome : 1 ≤ valuations p
   pub valuationsMost : valuations p ≤ 64
-
--- an accepted policy
-pub record PolicyAccepted (p : List ℕ) : Type 0 where
-  pub file : FileAccepted p
-  pub situationsMost : length (situations p) ≤ 127
 
 -- a book that row 13 does not turn down
 pub record BookLayout (b : List ℕ) : Type 0 where
@@ -162,17 +155,12 @@ module _ (p : List ℕ) where
         valuationsMost = leb-true (valuations p) 64 (r10 .0);
       }
 
-  pub policy-accepted : policyRefusal p ≡ 0 → PolicyAccepted p
+  pub policy-accepted : policyRefusal p ≡ 0 → (fileRefusal p ≡ 0) × (length (situations p) ≤ 127)
   unfolding policyRefusal row11
   policy-accepted e =
       let rows = then-judge-zero (fileRefusal p) (row11 p) .0 e in
       let r11 = judge-zero 10 (leb (length (situations p)) 127) 0 .0 (rows .1) in
-      record { file = file-accepted (rows .0); situationsMost = leb-true (length (situations p)) 127 (r11 .0) }
-
-  -- ---- the records lie within a file of the exact length
-  module _ (exact : length p ≡ exactLength p) where
-    pub rule-within : (k : ℕ) → k < rules p → 9 + fields p + k * ruleSize p + ruleSize p ≤ length p
-    rule-within k l = omega (arith, mul-le-mul-right (ruleSize p) l, suc-mul k (ruleSize p))
+      (rows .0, leb-true (length (situations p)) 127 (r11 .0))
 
 -- ---- books
 module _ (b : List ℕ) where
@@ -282,9 +270,3 @@ module _ (b : List ℕ) where
 
   pub book-passed : (bookRefusal b ≡ 0) ↔ BookPassed b
   book-passed = (passed, passes)
-
-  -- ---- the rows lie within bytes of the exact length
-  pub row-within : length b ≡ 12 + B.states b * B.width b → (s : ℕ) → 1 ≤ s → s ≤ B.states b → 12 + (s - 1) * B.width b + B.width b ≤ length b
-  row-within exact s some most =
-      let before : s - 1 < B.states b = omega arith in
-      omega (arith, mul-le-mul-right (B.width b) before, suc-mul (s - 1) (B.width b))

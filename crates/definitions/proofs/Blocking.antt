@@ -25,9 +25,9 @@ use Rattle.definitions.specs.Demands.{Unanswered, Events, BlockedAfter}
 use Rattle.definitions.proofs.Accepted.{BookPassed}
 use Rattle.definitions.proofs.BookSteps.{step-inside, has-states, events-possible}
 
-or-false : (a c : Bool) → (a || c) ≡ false → (a ≡ false) × (c ≡ false)
-or-false true c e = absurd (true≢false e)
-or-false false c e = (refl, e)
+neither-true : (a c : Bool) → (a || c) ≡ false → (a ≡ false) × (c ≡ false)
+neither-true true c e = absurd (true≢false e)
+neither-true false c e = (refl, e)
 
 -- ---- what is possible after a history is possible at its state
 module _ (b : List ℕ) (h : History) where
@@ -39,7 +39,7 @@ module _ (b : List ℕ) (h : History) where
 
   pub unanswered-from : (r : ℕ) → answered b (after (bookMachine b) 1 h) r ≡ false → Unanswered (bookMachine b) (events b) h r
   unanswered-from r p =
-      let both = or-false (acceptable b (after (bookMachine b) 1 h) r) (rejectable b (after (bookMachine b) 1 h) r) p in
+      let both = neither-true (acceptable b (after (bookMachine b) 1 h) r) (rejectable b (after (bookMachine b) 1 h) r) p in
       (code-at (acceptCode (events b) r) ∙ both .0, code-at (rejectCode (events b) r) ∙ both .1)
 
 -- ---- the events from state s are those of the book

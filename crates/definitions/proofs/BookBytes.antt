@@ -11,29 +11,25 @@ use lib.ListN.{length, getD, take, drop, length-append, List·getD-append}
 use lib.Seq.{getD-append-add, getD-at, getD-drop, take-at, drop-at, drop-append-add}
 use borrow.Author.Tests.{lt-ltb}
 use Rattle.automaton.specs.History.{History}
-use Rattle.automaton.specs.Machine.{step, after, isState, possible}
+use Rattle.automaton.specs.Machine.{step, after, isState, SameHistories}
 use Rattle.automaton.specs.Table.{entryIn, tabled}
+use Rattle.automaton.proofs.Congruence.{fold-below-same}
 use Rattle.automaton.proofs.Machines.{step-past}
-use Rattle.automaton.proofs.WellFormed.{IsTable, step-inside}
+use Rattle.automaton.proofs.WellFormed.{Wide, IsTable, step-inside}
 use Rattle.definitions.specs.Bytes.{byte, times}
 use Rattle.definitions.specs.Book as B
 use Rattle.definitions.specs.Book.{concat, bookBytes, bookMachine}
 use Rattle.definitions.specs.Policy as P
 use Rattle.definitions.specs.Refusal.{fileRefusal}
-use Rattle.definitions.proofs.Radix.{fold-same}
 use Rattle.definitions.proofs.Steps.{step-next}
 use Rattle.definitions.proofs.Accepted.{file-accepted}
 
--- every row is w long
-abbrev pub Wide : ℕ → List (List ℕ) → Type 0
-Wide w rows = (i : ℕ) → i < length rows → length (getD rows i []) ≡ w
-
 -- ---- rows one after another
 module _ (w : ℕ) where
-  wide-tail : (row : List ℕ) (rows : List (List ℕ)) → Wide w (row ∷ rows) → Wide w rows
+  pub wide-tail : (row : List ℕ) (rows : List (List ℕ)) → Wide w (row ∷ rows) → Wide w rows
   wide-tail row rows wide i l = wide (suc i) (omega arith)
 
-  length-concat : (rows : List (List ℕ)) → Wide w rows → length (concat rows) ≡ length rows * w
+  pub length-concat : (rows : List (List ℕ)) → Wide w rows → length (concat rows) ≡ length rows * w
   length-concat [] wide = omega arith
   length-concat (row ∷ rows) wide =
       length-append row (concat rows) ∙ omega (arith, wide 0 (omega arith), length-concat rows (wide-tail row rows wide), suc-mul (length rows) w)
@@ -110,7 +106,7 @@ module _ (frame : List ℕ) (rows : List (List ℕ)) (six : length frame ≡ 6) 
             ∙ after-of-bytes (step (tabled w rows) s c) (step-inside w rows ok s c) h
 
         -- and has its histories
-        pub possible-of-bytes : (h : History) → possible (bookMachine (bookBytes frame rows)) h ≡ possible (tabled w rows) h
+        pub possible-of-bytes : SameHistories (bookMachine (bookBytes frame rows)) (tabled w rows)
         possible-of-bytes h = ap isState (after-of-bytes 1 (ok .some) h)
 
 -- ---- equal bytes are those of equal frames and equal rows
@@ -138,10 +134,10 @@ module _ (p : List ℕ) (rows : List (List ℕ)) where
 
   module _ (passes : fileRefusal p ≡ 0) where
     pub policy-requests : B.requests (bookBytes (P.frame p) rows) ≡ P.requests p
-    policy-requests = fold-same 1 (times (B.count (bookBytes (P.frame p) rows))) (times (P.count p)) (P.fields p) turn
+    policy-requests = fold-below-same (times (B.count (bookBytes (P.frame p) rows))) (times (P.count p)) 1 (P.fields p) turn
       where
-        turn : (f : ℕ) → f < P.fields p → (q : ℕ) → q * B.count (bookBytes (P.frame p) rows) f ≡ q * P.count p f
-        turn f l q =
+        turn : (f q : ℕ) → f < P.fields p → q * B.count (bookBytes (P.frame p) rows) f ≡ q * P.count p f
+        turn f q l =
             let few : f < 4 = omega (arith, file-accepted p passes .fieldsMost) in
             let present : P.presentCount p f ≡ P.count p f = rw (lt-ltb f (P.fields p) l) in
             ap (λ (x : ℕ). q * x) (policy-count f few ∙ present)

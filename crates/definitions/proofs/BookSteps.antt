@@ -1,6 +1,6 @@
 -- The machine of a book that the checks pass: its states are the numbers of its rows, and every list of events is possible in each.
 use mathlib.Core.Path.{_≡_, refl}
-use mathlib.Core.Bool.{Bool, cond, true, false, false≢true, not}
+use mathlib.Core.Bool.{Bool, cond, true, false, not}
 use mathlib.Core.List.{List, [], _∷_}
 use Prim.Native.Nat.{ℕ, zero, suc, _+_, _-_, _*_, _≤_, _<_}
 use native.Mathlib.Nat.{mul-le-mul-right}
@@ -11,28 +11,21 @@ use lib.ListN.{length, List·getD-eq-default}
 use borrow.Author.Tests.{ltb-true, lt-ltb, ne-eqb}
 use Rattle.automaton.specs.History.{History}
 use Rattle.automaton.specs.Machine.{step, after, isState}
+pub use Rattle.automaton.proofs.Machines.{is-state, state-is}
 use Rattle.automaton.proofs.Separating.{HasStates}
 use Rattle.definitions.specs.Book.{events, width, states, entry, bookMachine}
 use Rattle.definitions.specs.Demands.{Events}
+use Rattle.definitions.proofs.Steps.{step-next}
 use Rattle.definitions.proofs.Accepted.{BookPassed}
 
-pub is-state : (s : ℕ) → 1 ≤ s → isState s ≡ true
-is-state zero l = absurd (omega arith)
-is-state (suc s) l = refl
-
-pub state-is : (s : ℕ) → isState s ≡ true → 1 ≤ s
-state-is zero p = absurd (false≢true p)
-state-is (suc s) p = omega arith
-
--- the same as the code tests it
+-- a state as the code tests it
 pub state-test : (s : ℕ) → not (eqb s 0) ≡ isState s
 state-test zero = refl
 state-test (suc s) = rw (ne-eqb (suc s) 0 (λ e. omega arith))
 
 -- entry c of row s is the step by c from s
 pub step-is-entry : (b : List ℕ) (s c : ℕ) → 1 ≤ s → c < width b → step (bookMachine b) s c ≡ entry b s c
-step-is-entry b zero c some l = absurd (omega arith)
-step-is-entry b (suc s) c some l = rw (lt-ltb c (width b) l)
+step-is-entry b s c some l = step-next (bookMachine b) s c (is-state s some) l
 
 module _ (b : List ℕ) (ok : BookPassed b) where
   -- past the rows there are no entries

@@ -9,23 +9,20 @@ use native.Mathlib.Omega.{arith}
 use lib.ListN.{length}
 use borrow.Author.Tests.{lt-ltb, le-ltb}
 use Rattle.automaton.specs.History.{History}
-use Rattle.automaton.specs.Machine.{Machine, step, after, isState, possible}
+use Rattle.automaton.specs.Machine.{Machine, step, after, isState, possible, SameHistories}
 use Rattle.automaton.specs.Table.{entryIn, tabled}
-use Rattle.automaton.proofs.Machines.{after-append}
+use Rattle.automaton.proofs.Machines.{is-state, state-is, after-append}
 use Rattle.automaton.proofs.WellFormed.{IsTable, step-entry}
 use Rattle.automaton.proofs.Minimal.{TidyTableOf, built, built-length, built-unique}
 use Rattle.definitions.specs.Policy as P
 use Rattle.definitions.specs.Situation.{startSituation, policyMachine}
 use Rattle.definitions.specs.Book as B
 use Rattle.definitions.specs.Book.{bookBytes, bookMachine}
-use Rattle.definitions.specs.Refusal.{fileRefusal, situations, row11, policyRefusal, Accepted, bookRefusal}
+use Rattle.definitions.specs.Refusal.{fileRefusal, situations, Accepted, bookRefusal}
 use Rattle.definitions.specs.Build.{bookRows, bookOf}
-use Rattle.definitions.specs.Demands.{SameHistories}
-use Rattle.definitions.proofs.Tests.{then-judge-zero}
 use Rattle.definitions.proofs.Accepted.{FileAccepted, file-accepted, policy-accepted, BookLayout, BookPassed, book-passed}
 use Rattle.definitions.proofs.BookBytes.{length-of-bytes, entry-of-bytes, possible-of-bytes, policy-count, policy-requests, policy-width}
 use Rattle.definitions.proofs.Steps.{start-below, after-below, event-possible}
-use Rattle.definitions.proofs.BookSteps.{is-state, state-is}
 
 -- ---- a tidy table of a machine
 module _ (w : ℕ) (m : Machine) (rows : List (List ℕ)) (t : TidyTableOf w m rows) where
@@ -102,11 +99,10 @@ module _ (p : List ℕ) (passes : fileRefusal p ≡ 0) (rows : List (List ℕ)) 
 -- ---- the book of an accepted policy
 module _ (p : List ℕ) (accepted : Accepted p) where
   file-passes : fileRefusal p ≡ 0
-  unfolding policyRefusal
-  file-passes = then-judge-zero (fileRefusal p) (row11 p) .0 accepted .0
+  file-passes = policy-accepted p accepted .0
 
   few : length (situations p) ≤ 127
-  few = policy-accepted p accepted .situationsMost
+  few = policy-accepted p accepted .1
 
   rows-tidy : TidyTableOf (P.width p) (policyMachine p) (bookRows p)
   unfolding bookRows situations

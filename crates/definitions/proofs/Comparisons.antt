@@ -1,17 +1,17 @@
 -- The comparison of two books that pass and have one frame is right: same exactly when the same histories are possible in both, and else the earliest
 -- history possible in just one, whose length is 1 to n + n' - 1. It ends in compare-right.
-use mathlib.Core.Path.{_≡_, refl, sym, ap, _∙_}
-use mathlib.Core.Bool.{Bool, true, false}
+use mathlib.Core.Path.{_≡_, sym, ap, _∙_}
 use mathlib.Core.Logic.{_↔_}
 use mathlib.Core.List.{List}
 use mathlib.Core.Option.{none, some}
 use Prim.Native.Nat.{ℕ, _+_, _-_, _*_, _≤_, _<_}
 use native.Mathlib.Omega.{arith}
-use lib.Dec.{T}
 use lib.ListN.{length, drop}
 use lib.Seq.{getD-take, getD-drop}
 use Rattle.automaton.specs.History.{History, Earliest}
-use Rattle.automaton.specs.Machine.{possible, inOne}
+use Rattle.automaton.specs.Machine.{possible, SameHistories, inOne}
+use Rattle.automaton.proofs.Counting.{is-true}
+use Rattle.automaton.proofs.Congruence.{fold-below-same}
 use Rattle.automaton.proofs.Separating.{Separates}
 use Rattle.automaton.proofs.Pairs.{difference-none, difference-some}
 use Rattle.definitions.specs.Bytes.{byte, times, product}
@@ -20,7 +20,6 @@ use Rattle.definitions.specs.Refusal.{bookRefusal}
 use Rattle.definitions.specs.Compare.{comparison}
 use Rattle.definitions.specs.Demands.{InJustOne, CompareIsRight}
 use Rattle.definitions.proofs.Accepted.{BookPassed, book-passed}
-use Rattle.definitions.proofs.Radix.{fold-same}
 use Rattle.definitions.proofs.BookSteps.{has-states}
 
 -- ---- the frame fixes the width
@@ -39,19 +38,12 @@ module _ (b d : List ℕ) (same : frame b ≡ frame d) where
   same-requests : fields d ≤ 4 → requests b ≡ requests d
   same-requests few =
       ap (λ (n : ℕ). product n (count b)) (same-byte 1 (omega arith))
-      ∙ fold-same 1 (times (count b)) (times (count d)) (fields d) (λ f l q. ap (λ (n : ℕ). q * n) (same-count f (omega arith)))
+      ∙ fold-below-same (times (count b)) (times (count d)) 1 (fields d) (λ f q l. ap (λ (n : ℕ). q * n) (same-count f (omega arith)))
 
   pub same-width : fields d ≤ 4 → width b ≡ width d
   same-width few = omega (arith, same-byte 0 (omega arith), same-requests few)
 
 -- ---- the comparison
-is-true : (t : Bool) → T t → t ≡ true
-is-true true u = refl
-is-true false u = absurd u
-
-true-is : (t : Bool) → t ≡ true → T t
-true-is t e = rw e tt
-
 module _ (b d : List ℕ) (first : BookPassed b) (second : BookPassed d) (same : frame b ≡ frame d) where
   wide : width b ≡ width d
   wide = same-width b d same (second .layout .fieldsMost)
@@ -60,7 +52,7 @@ module _ (b d : List ℕ) (first : BookPassed b) (second : BookPassed d) (same :
   room : states b * 128 + states d ≤ 16383
   room = omega (arith, first .layout .statesMost, second .layout .statesMost)
 
-  compared-none : (comparison b d ≡ none) ↔ ((h : History) → possible (bookMachine b) h ≡ possible (bookMachine d) h)
+  compared-none : (comparison b d ≡ none) ↔ SameHistories (bookMachine b) (bookMachine d)
   unfolding comparison
   compared-none =
       difference-none (bookMachine b) (bookMachine d) (states b) (states d) (has-states b first) (has-states d second) wide 128 16383
@@ -76,7 +68,7 @@ module _ (b d : List ℕ) (first : BookPassed b) (second : BookPassed d) (same :
   in-just-one : (h : History) → Earliest (Separates (bookMachine b) (bookMachine d)) h → Earliest (InJustOne (bookMachine b) (bookMachine d)) h
   in-just-one h e = (
     is-true (inOne (possible (bookMachine b) h) (possible (bookMachine d) h)) (e .0),
-    λ k p. e .1 k (true-is (inOne (possible (bookMachine b) k) (possible (bookMachine d) k)) p),
+    λ k p. e .1 k (rw p tt),
   )
 
 pub compare-right : (b d : List ℕ) → bookRefusal b ≡ 0 → bookRefusal d ≡ 0 → frame b ≡ frame d → CompareIsRight b d

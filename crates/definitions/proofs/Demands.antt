@@ -3,14 +3,14 @@
 use mathlib.Core.Path.{_≡_, sym, ap, _∙_}
 use mathlib.Core.List.{List}
 use Prim.Native.Nat.{ℕ}
-use Rattle.automaton.specs.Machine.{possible}
+use Rattle.automaton.specs.Machine.{possible, SameHistories}
 use Rattle.definitions.specs.Policy as P
 use Rattle.definitions.specs.Situation.{policyMachine}
 use Rattle.definitions.specs.Book as B
 use Rattle.definitions.specs.Refusal.{Accepted}
 use Rattle.definitions.specs.Build.{bookOf}
 use Rattle.definitions.specs.Compare.{comparison}
-use Rattle.definitions.specs.Demands.{SameHistories, Demand2, Demand3}
+use Rattle.definitions.specs.Demands.{Demand2, Demand3}
 use Rattle.definitions.proofs.Accepted.{book-passed}
 use Rattle.definitions.proofs.Built.{built-frame, built-histories, built-passes, frames-same, books-same}
 use Rattle.definitions.proofs.SameHistories.{findings-along, comparison-along}

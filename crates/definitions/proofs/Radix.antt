@@ -1,6 +1,6 @@
 -- Numbers by their digits in mixed radix, where digit j is one of `sizes j` values: lowest digit first, as valuations are numbered, and highest digit
 -- first, as requests are. Both ways, the numbers below the product of the sizes and the lists of digits correspond one to one.
-use mathlib.Core.Path.{_≡_, refl, ap, sym, _∙_}
+use mathlib.Core.Path.{_≡_, ap, sym, _∙_}
 use mathlib.Core.Logic.{_⊎_, inl, inr}
 use Prim.Native.Nat.{ℕ, zero, suc, _+_, _-_, _*_, _/_, _%_, _≤_, _<_}
 use native.Mathlib.Nat.{not-suc-le-zero, mod-one, mod-lt, mod-eq-of-lt, mul-comm, mul-pos, div-one, div-add-mod', div-lt-iff-lt-mul, div-div-eq-div-mul}
@@ -8,12 +8,8 @@ use native.Mathlib.Omega.{arith}
 use lib.Arith.{lt-one, digits-lt, digits-div, digits-mod, mod-mul}
 use Rattle.automaton.specs.Below.{foldBelow}
 use Rattle.automaton.proofs.Counting.{below-suc}
+use Rattle.automaton.proofs.Congruence.{fold-below-same}
 use Rattle.definitions.specs.Bytes.{product}
-
--- a fold depends on its turns only
-pub fold-same : {A : Type 0} (a : A) (f g : ℕ → A → A) (n : ℕ) → ((k : ℕ) → k < n → (x : A) → f k x ≡ g k x) → foldBelow n a f ≡ foldBelow n a g
-fold-same a f g zero h = refl
-fold-same a f g (suc n) h = ap (f n) (fold-same a f g n (λ k l. h k (omega arith))) ∙ h n (omega arith) (foldBelow n a g)
 
 -- the two digits of a number
 two-digits-same : {m r s : ℕ} (q t : ℕ) → r < m → s < m → q * m + r ≡ t * m + s → (q ≡ t) × (r ≡ s)
@@ -69,7 +65,7 @@ module _ (sizes : ℕ → ℕ) where
 
   low-number-same : (n : ℕ) (xs ys : ℕ → ℕ) → ((j : ℕ) → j < n → xs j ≡ ys j) → lowNumber sizes n xs ≡ lowNumber sizes n ys
   low-number-same n xs ys same =
-      fold-same 0 (λ j u. u + xs j * product j sizes) (λ j u. u + ys j * product j sizes) n (λ j l u. ap (λ (d : ℕ). u + d * product j sizes) (same j l))
+      fold-below-same (λ j u. u + xs j * product j sizes) (λ j u. u + ys j * product j sizes) 0 n (λ j u l. ap (λ (d : ℕ). u + d * product j sizes) (same j l))
 
   low-same : (n : ℕ) (xs ys : ℕ → ℕ) → Digits sizes n xs → Digits sizes n ys → lowNumber sizes n xs ≡ lowNumber sizes n ys
       → (j : ℕ) → j < n → xs j ≡ ys j
@@ -142,7 +138,7 @@ module _ (sizes : ℕ → ℕ) where
   high-digit-below n r j some = mod-lt (r / highWorth sizes n j) some
 
   high-number-same : (n : ℕ) (xs ys : ℕ → ℕ) → ((j : ℕ) → j < n → xs j ≡ ys j) → highNumber sizes n xs ≡ highNumber sizes n ys
-  high-number-same n xs ys same = fold-same 0 (λ j r. r * sizes j + xs j) (λ j r. r * sizes j + ys j) n (λ j l r. ap (λ (d : ℕ). r * sizes j + d) (same j l))
+  high-number-same n xs ys same = fold-below-same (λ j r. r * sizes j + xs j) (λ j r. r * sizes j + ys j) 0 n (λ j r l. ap (λ (d : ℕ). r * sizes j + d) (same j l))
 
   pub high-number : (n : ℕ) → Sizes sizes n → (r : ℕ) → r < product n sizes → highNumber sizes n (highDigit sizes n r) ≡ r
   high-number zero some r l = sym (lt-one l)

@@ -5,11 +5,11 @@ use mathlib.Core.List.{List, [], _∷_, _++_}
 use mathlib.Core.Option.{Option}
 use Prim.Native.Nat.{ℕ, _<_}
 use Rattle.automaton.specs.History.{History, Earliest}
-use Rattle.automaton.specs.Machine.{Machine, inOne}
+use Rattle.automaton.specs.Machine.{Machine, SameHistories, inOne}
 use Rattle.definitions.specs.Situation.{acceptCode, rejectCode}
 use Rattle.definitions.specs.Book.{events, requests}
 use Rattle.definitions.specs.Verdict.{conflict, missing, blocked}
-use Rattle.definitions.specs.Demands.{Events, FindingIsRight, BlockingIsRight, FindingsAreRight, SameHistories, ComparisonIsRight}
+use Rattle.definitions.specs.Demands.{Events, FindingIsRight, BlockingIsRight, FindingsAreRight, ComparisonIsRight}
 
 -- the properties of histories that findings are about, over what is possible instead of a machine
 module _ (possible : History → Bool) (E : ℕ) where

@@ -28,14 +28,18 @@ pub one-shifted : (v : ℕ) → v < 64 → 1 * 2 ^ v % 2 ^ 64 ≡ 2 ^ v
 one-shifted v h = shl-exact {a = 1} 1 v 64 (lit< tt) (omega arith) ∙ one-mul (2 ^ v)
 
 -- ---- which valuations a set has
+-- the four cases of two digits below 2
+pub two-digit-cases : (P : ℕ → ℕ → Type 0) → P 0 0 → P 0 1 → P 1 0 → P 1 1 → (x y : ℕ) → x < 2 → y < 2 → P x y
+two-digit-cases P a b c d zero zero lx ly = a
+two-digit-cases P a b c d zero (suc zero) lx ly = b
+two-digit-cases P a b c d (suc zero) zero lx ly = c
+two-digit-cases P a b c d (suc zero) (suc zero) lx ly = d
+two-digit-cases P a b c d zero (suc (suc y)) lx ly = absurd (omega arith)
+two-digit-cases P a b c d (suc zero) (suc (suc y)) lx ly = absurd (omega arith)
+two-digit-cases P a b c d (suc (suc x)) y lx ly = absurd (omega arith)
+
 one-of-two : (x y : ℕ) → x < 2 → y < 2 → eqb (max x y) 1 ≡ (eqb x 1 || eqb y 1)
-one-of-two zero zero lx ly = refl
-one-of-two zero (suc zero) lx ly = refl
-one-of-two (suc zero) zero lx ly = refl
-one-of-two (suc zero) (suc zero) lx ly = refl
-one-of-two zero (suc (suc y)) lx ly = absurd (omega arith)
-one-of-two (suc zero) (suc (suc y)) lx ly = absurd (omega arith)
-one-of-two (suc (suc x)) y lx ly = absurd (omega arith)
+one-of-two = two-digit-cases (λ x y. eqb (max x y) 1 ≡ (eqb x 1 || eqb y 1)) refl refl refl refl
 
 pub bit-union : (a b u : ℕ) → bit (union a b) u ≡ (bit a u || bit b u)
 bit-union a b u =

@@ -3,7 +3,7 @@
 use mathlib.Core.Path.{_≡_, refl, sym, _∙_}
 use mathlib.Core.Bool.{Bool, true, false, not, true≢false, false≢true}
 use mathlib.Core.Logic.{_↔_, _⊎_, inl, inr}
-use mathlib.Core.List.{List, [], _∷_}
+use mathlib.Core.List.{List}
 use Prim.Native.Nat.{ℕ, zero, suc, _^_, _≤_, _<_}
 use native.Mathlib.Omega.{arith}
 use native.Mathlib.Decide.{decLt}
@@ -13,7 +13,7 @@ use borrow.Author.Tests.{leb-true, ltb-true, ltb-false, eqb-true, not-true, le-l
 use Rattle.automaton.specs.History.{History}
 use Rattle.automaton.specs.Machine.{Machine, step, after, isState}
 use Rattle.automaton.proofs.Counting.{and-true, all-below, all-below-at, any-below, any-below-at}
-use Rattle.automaton.proofs.Machines.{step-past}
+use Rattle.automaton.proofs.Machines.{step-past, after-keeps}
 use Rattle.definitions.specs.Policy.{events, fields, variables, rules, width, rule, mask, decision, level, ge, lt, change, eventChange, value}
 use Rattle.definitions.specs.Valuation.{valuations, variableIn, byRule, byEvent}
 use Rattle.definitions.specs.Situation.{maskLets, letsThrough, isBelow, testPasses, enabled, fits, outranks, outranked, applies, startSituation, decides, requestImage, requestOf, decisionOf, image, imageOfSet, policyMachine}
@@ -190,8 +190,7 @@ module _ (p : List ℕ) where
 
   -- every history leads to a set of valuations
   pub after-below : (set : ℕ) → set < 2 ^ valuations p → (h : History) → after (policyMachine p) set h < 2 ^ valuations p
-  after-below set l [] = l
-  after-below set l (c ∷ h) = after-below (step (policyMachine p) set c) (step-below set c) h
+  after-below = after-keeps (policyMachine p) (λ set. set < 2 ^ valuations p) step-below
 
   -- an event is possible in every situation
   pub event-possible : (set c : ℕ) → isState set ≡ true → set < 2 ^ valuations p → c < events p → isState (step (policyMachine p) set c) ≡ true

@@ -2,17 +2,15 @@
 -- value. A variable's bound is the greatest number that a rule tests it with.
 use mathlib.Core.Path.{_≡_, refl}
 use mathlib.Core.Bool.{Bool, cond, true, false}
-use mathlib.Core.Logic.{_⊎_, inl, inr}
 use mathlib.Core.List.{List}
 use Prim.Native.Nat.{ℕ, zero, suc, _≤_, _<_}
-use native.Mathlib.Nat.{zero-div, zero-mod, not-suc-le-zero}
+use native.Mathlib.Nat.{zero-div, zero-mod}
 use native.Mathlib.Omega.{arith}
 use lib.Dec.{ltb}
 use borrow.Author.Tests.{ltb-true}
-use Rattle.automaton.specs.Below.{foldBelow}
-use Rattle.automaton.proofs.Counting.{below-suc}
+use Rattle.automaton.proofs.Counting.{greatest-below, greatest-below-least}
 use Rattle.definitions.specs.Policy.{variables, rules, rule, ge, lt}
-use Rattle.definitions.specs.Valuation.{greatestTested, bound, valuesOf, worth, valuations, startValuation, variableIn, changed, carriedOut}
+use Rattle.definitions.specs.Valuation.{tested, bound, valuesOf, worth, valuations, startValuation, variableIn, changed, carriedOut}
 use Rattle.definitions.proofs.Radix.{product-some, lowNumber, low-below, low-digit, low-digit-below, low-unique}
 
 -- a change keeps a variable at or below its bound
@@ -27,30 +25,16 @@ changed-bound (suc (suc n)) most x l = omega arith
 
 -- ---- bounds
 module _ (p : List ℕ) (j : ℕ) where
-  -- the greatest number that one of the first n rules tests the variable with
-  abbrev greatestOf : ℕ → ℕ
-  greatestOf n = foldBelow n 0 (greatestTested p j)
-
-  greatest-tested : (n k : ℕ) → k < n → (ge p (rule p k) j ≤ greatestOf n) × (lt p (rule p k) j ≤ greatestOf n)
-  greatest-tested zero k l = absurd (not-suc-le-zero l)
-  greatest-tested (suc n) k l = go (greatest-tested n k) (below-suc k n l)
-    where
-      go : (k < n → (ge p (rule p k) j ≤ greatestOf n) × (lt p (rule p k) j ≤ greatestOf n)) → (k < n) ⊎ (k ≡ n)
-          → (ge p (rule p k) j ≤ greatestOf (suc n)) × (lt p (rule p k) j ≤ greatestOf (suc n))
-      go ih (inl b) = let r = ih b in (omega arith, omega arith)
-      go ih (inr e) = rw e (omega arith, omega arith)
-
-  least-tested : (n most : ℕ) → ((k : ℕ) → k < n → (ge p (rule p k) j ≤ most) × (lt p (rule p k) j ≤ most)) → greatestOf n ≤ most
-  least-tested zero most h = omega arith
-  least-tested (suc n) most h = omega (arith, least-tested n most (λ k l. h k (omega arith)), h n (omega arith))
+  abbrev testedBy : ℕ → ℕ
+  testedBy k = tested p (rule p k) j
 
   -- no rule tests a variable with a number above its bound
   pub tested-bound : (k : ℕ) → k < rules p → (ge p (rule p k) j ≤ bound p j) × (lt p (rule p k) j ≤ bound p j)
-  tested-bound k l = greatest-tested (rules p) k l
+  tested-bound k l = let most : testedBy k ≤ bound p j = greatest-below testedBy (rules p) k l in (omega arith, omega arith)
 
   -- and the bound is the least such number
   pub bound-least : (most : ℕ) → ((k : ℕ) → k < rules p → (ge p (rule p k) j ≤ most) × (lt p (rule p k) j ≤ most)) → bound p j ≤ most
-  bound-least most h = least-tested (rules p) most h
+  bound-least most h = greatest-below-least testedBy (rules p) most (λ k l. omega (arith, h k l))
 
 -- ---- values of variables
 module _ (p : List ℕ) where

@@ -8,7 +8,7 @@ use mathlib.Core.Option.{Option, none, some}
 use Prim.Native.Nat.{ℕ, _+_, _*_, _≤_, _<_}
 use lib.ListN.{length, getD, take}
 use Rattle.automaton.specs.History.{History, Earliest}
-use Rattle.automaton.specs.Machine.{Machine, possible, inOne}
+use Rattle.automaton.specs.Machine.{Machine, possible, SameHistories, inOne}
 use Rattle.definitions.specs.Policy as P
 use Rattle.definitions.specs.Situation.{acceptCode, rejectCode, policyMachine}
 use Rattle.definitions.specs.Book as B
@@ -64,9 +64,6 @@ pub record FindingsAreRight (m : Machine) (b : List ℕ) : Type 0 where
   pub blocked-right : BlockingIsRight (BlockedAfter m (B.events b) (B.requests b)) (blocked b)
 
 -- ---- "Two accepted policies ..": the histories possible in two machines
-abbrev pub SameHistories : Machine → Machine → Type 0
-SameHistories m k = (h : History) → possible m h ≡ possible k h
-
 abbrev pub InJustOne : Machine → Machine → History → Type 0
 InJustOne m k h = inOne (possible m h) (possible k h) ≡ true
 

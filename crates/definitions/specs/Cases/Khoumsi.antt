@@ -8,7 +8,7 @@ use Rattle.definitions.specs.Refusal.{situations}
 use Rattle.definitions.specs.Build.{bookOf, bookRows}
 use Rattle.definitions.specs.Verdict.{findings}
 use Rattle.definitions.specs.Cases.Claim.{Claim, number, rows, found}
-use Rattle.definitions.specs.Cases.Samples.{policy, ruleOf, likeG, after, noFindings, conflictAfter, missingAfter, missingAndBlockedAfter}
+use Rattle.definitions.specs.Cases.Samples.{policy, ruleOf, likeG, foundAfter, noFindings, conflictAfter, missingAfter, missingAndBlockedAfter}
 
 -- "R1 Image, Video Accept - v := 0; R2 Audio Accept v < 2 v := v + 1; R3 Audio Reject v ≥ 2 -"
 abbrev pub table3 : List ℕ
@@ -69,7 +69,7 @@ khoumsiCases =
     ∷ found (findings (bookOf table5)) noFindings
     -- figure 7: "(0,1) has outgoing transitions labeled Im/A and Im/R"
     ∷ rows (bookRows table6) figure7
-    ∷ found (findings (bookOf table6)) (record { conflict = some (after 0 (0 ∷ [])); missing = some (after 1 (4 ∷ [])); blocked = none })
+    ∷ found (findings (bookOf table6)) (record { conflict = some (foundAfter 0 (0 ∷ [])); missing = some (foundAfter 1 (4 ∷ [])); blocked = none })
     -- G with an event that changes nothing and one that resets: at v = 1 the first event alone makes a cycle of states with events only, which
     -- proposition 2 calls blocking; the second event leads out of it, so definition 2 does not
     ∷ found (findings (bookOf (likeG 2 (0 ∷ 2 ∷ [])))) (missingAfter 0 (2 ∷ []))

@@ -78,17 +78,17 @@ abbrev pub lent : ℕ → List ℕ
 lent n = replicate n 7
 
 -- ---- findings
-abbrev pub after : ℕ → History → Found
-after r h = record { request = r; history = h }
+abbrev pub foundAfter : ℕ → History → Found
+foundAfter r h = record { request = r; history = h }
 
 abbrev pub noFindings : Findings
 noFindings = record { conflict = none; missing = none; blocked = none }
 
 abbrev pub conflictAfter : ℕ → History → Findings
-conflictAfter r h = record { conflict = some (after r h); missing = none; blocked = none }
+conflictAfter r h = record { conflict = some (foundAfter r h); missing = none; blocked = none }
 
 abbrev pub missingAfter : ℕ → History → Findings
-missingAfter r h = record { conflict = none; missing = some (after r h); blocked = none }
+missingAfter r h = record { conflict = none; missing = some (foundAfter r h); blocked = none }
 
 abbrev pub missingAndBlockedAfter : ℕ → History → Findings
-missingAndBlockedAfter r h = record { conflict = none; missing = some (after r h); blocked = some h }
+missingAndBlockedAfter r h = record { conflict = none; missing = some (foundAfter r h); blocked = some h }
