@@ -12,7 +12,7 @@ use Rattle.automaton.specs.Join.{minimal}
 use Rattle.automaton.proofs.Counting.{length-list-below, getD-list-below}
 use Rattle.automaton.proofs.WellFormed.{getD-map-within}
 use Rattle.automaton.proofs.Exploring.{stateAt}
-use Rattle.automaton.proofs.Tables.{table-length}
+use Rattle.automaton.proofs.Tables.{table-length, row-of-table}
 use Rattle.definitions.specs.Bytes.{byte}
 use Rattle.definitions.proofs.BookSteps.{state-is}
 use Rattle.tables.specs.States.{states}
@@ -20,7 +20,7 @@ use Rattle.write.specs.Rows.{numberedRow, numberedRows, StatesBelow}
 use Rattle.tables.specs.Classes.{rowsWith}
 use Rattle.number.specs.Numbers.{Joined, joinedIn, classesReached, stateNumbers}
 use Rattle.tables.proofs.States.{length-states, state-at}
-use Rattle.tables.proofs.TableBytes.{row-of-table, state-row, state-entry}
+use Rattle.tables.proofs.TableBytes.{state-row, state-entry}
 use Rattle.number.proofs.Classing.{count, joined-step, classes-sound}
 use Rattle.number.proofs.Ordering.{state-low}
 use Rattle.write.proofs.Writing.{looked-length}

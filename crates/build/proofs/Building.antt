@@ -16,7 +16,7 @@ use Rattle.automaton.specs.Table.{table}
 use Rattle.automaton.specs.Join.{minimal}
 use Rattle.automaton.proofs.WellFormed.{IsTable}
 use Rattle.automaton.proofs.Exploring.{reached-sound}
-use Rattle.automaton.proofs.Tables.{table-length, table-is-table}
+use Rattle.automaton.proofs.Tables.{table-length, table-is-table, table-wide}
 use Rattle.definitions.specs.Answer.{judge, refused, given, written}
 use Rattle.definitions.specs.Policy.{fields, requests, width, frame}
 use Rattle.definitions.specs.Valuation.{valuations}
@@ -30,8 +30,9 @@ use Rattle.explore.specs.Images.{imagesMachine}
 use Rattle.explore.specs.Reaches.{allReached, Reaches}
 use Rattle.tables.specs.Rows.{rowsIn, TableIn}
 use Rattle.build.proofs.Policies.{ImagesOf, reached-policy, table-policy}
-use Rattle.tables.proofs.Buffers.{length-concat, length-written, rows-of-concat}
-use Rattle.tables.proofs.TableBytes.{table-wide}
+use Rattle.definitions.proofs.Written.{length-written}
+use Rattle.definitions.proofs.BookBytes.{length-concat}
+use Rattle.tables.proofs.Buffers.{rows-of-concat}
 
 -- ---- the sizes of a policy that has passed
 module _ (p : List ℕ) (e : fileRefusal p ≡ 0) where

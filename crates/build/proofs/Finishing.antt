@@ -13,7 +13,7 @@ use Rattle.write.specs.Rows.{numberedRows, StatesBelow}
 use Rattle.tables.specs.Classes.{lastRound}
 use Rattle.number.specs.Numbers.{Joined, classesReached, Numbered}
 use Rattle.tables.proofs.States.{length-states}
-use Rattle.tables.proofs.Buffers.{take-written}
+use Rattle.definitions.proofs.Written.{take-written}
 use Rattle.number.proofs.Classing.{reached-low}
 use Rattle.build.proofs.Books.{order-states, numbered-minimal}
 

@@ -1,13 +1,12 @@
 -- The rows of a comparison judged in order, and its answer and its buffer from what was found.
-use mathlib.Core.Path.{_≡_, ap, sym, _∙_}
+use mathlib.Core.Path.{_≡_, refl, ap, sym, _∙_}
 use mathlib.Core.Bool.{Bool, true, false, not}
-use mathlib.Core.List.{List, [], _∷_, _++_}
+use mathlib.Core.List.{List}
 use mathlib.Core.Option.{Option}
-use Prim.Native.Nat.{ℕ, suc, _+_, _≤_, _<_}
+use Prim.Native.Nat.{ℕ, _+_, _≤_, _<_}
 use native.Mathlib.Omega.{arith}
 use lib.Dec.{leb}
-use lib.ListN.{length, getD, take, drop, set, length-append}
-use lib.Seq.{drop-cons, set-append-seam, append-snoc, take-at}
+use lib.ListN.{length, set, length-append}
 use borrow.Author.Tests.{le-leb, lt-leb, leb-true, ne-eqb, not-true, not-false}
 use Rattle.automaton.specs.Below.{sameList}
 use Rattle.automaton.specs.History.{History}
@@ -17,6 +16,7 @@ use Rattle.definitions.specs.Refusal.{bookRefusal, row15}
 use Rattle.definitions.specs.Compare.{comparison, compareRefusal, compareAnswer, compareBuffer}
 use Rattle.automaton.proofs.Counting.{same-list-true}
 use Rattle.definitions.proofs.Tests.{judge-zero, then-judge-zero}
+use Rattle.definitions.proofs.Written.{written-next}
 use Rattle.definitions.proofs.Answers.{refused-answer, given-answer, refused-buffer, given-buffer}
 use Rattle.definitions.proofs.Accepted.{book-passed}
 use Rattle.definitions.proofs.Comparisons.{same-width}
@@ -98,13 +98,6 @@ module _ (b d buffer : List ℕ) (x : ℕ) (ex : x ≡ compareRefusal b d buffer
   )
 
 -- ---- the buffer
-written-more : (h : History) (c : ℕ) (buffer : List ℕ) → length h < length buffer → set (written h buffer) (length h) c ≡ written (h ++ (c ∷ [])) buffer
-written-more h c buffer l =
-    let longer : length (h ++ (c ∷ [])) ≡ suc (length h) = length-append h (c ∷ []) ∙ omega arith in
-    ap (λ (ys : List ℕ). set (h ++ ys) (length h) c) (drop-cons buffer (length h) 0 l)
-    ∙ (set-append-seam h (getD buffer (length h) 0) (drop (suc (length h)) buffer) c
-    ∙ (sym (append-snoc h c (drop (suc (length h)) buffer)) ∙ rw longer))
-
 -- the history of a place is written, and then a code after it
 pub difference-written : (trail : List ℕ) (i c n : ℕ) (buffer after : List ℕ) → Traced i c trail → 256 ≤ length buffer → n ≡ length (historyAt trail i)
     → after ≡ written (historyAt trail i) buffer
@@ -113,9 +106,5 @@ difference-written trail i c n buffer after t room en ea =
     let short = history-short trail i (t .falls) in
     let h = historyAt trail i in (
       rw length-append (omega arith),
-      rw (ea, en) (written-more h c buffer (omega (arith, t .few))),
+      rw (ea, en) (written-next h buffer (length h) c refl (omega (arith, t .few))),
     )
-
--- what is written can be read again
-pub take-written : (h : History) (n : ℕ) (buffer after : List ℕ) → n ≡ length h → after ≡ written h buffer → take n after ≡ h
-take-written h n buffer after en ea = rw ea (take-at h (drop (length h) buffer) n (sym en))

@@ -1,17 +1,18 @@
 -- Demand 3 over the calls: the books that build leaves in two buffers, whatever these held, and what compare answers on them.
-use mathlib.Core.Path.{_≡_, refl, sym, ap, ap₂, _∙_, subst₂}
+use mathlib.Core.Path.{_≡_, refl, sym, ap₂, _∙_, subst₂}
 use mathlib.Core.List.{List}
 use Prim.Native.Nat.{ℕ, _≤_}
-use lib.ListN.{length, drop}
-use lib.Seq.{take-at}
+use lib.ListN.{length}
 use borrow.Author.Tests.{le-leb}
 use Rattle.automaton.proofs.Counting.{same-list-refl}
-use Rattle.definitions.specs.Answer.{given, answer, written, afterCall, historyBytes}
+use Rattle.definitions.specs.Answer.{given, written, historyBytes}
 use Rattle.definitions.specs.Book as B
 use Rattle.definitions.specs.Refusal.{Accepted, bookRefusal, row15}
 use Rattle.definitions.specs.Build.{bookOf, buildRefusal, buildAnswer, buildBuffer}
 use Rattle.definitions.specs.Compare.{comparison, compareRefusal, compareAnswer, compareBuffer}
 use Rattle.definitions.specs.Demands.{bookIn, bookBuilt, BooksInBuffers, Demand3OfCalls}
+use Rattle.definitions.proofs.Answers.{given-answer, given-buffer}
+use Rattle.definitions.proofs.Written.{take-written}
 use Rattle.definitions.proofs.Built.{built-passes, frames-same}
 use Rattle.definitions.proofs.Demands.{demand3}
 
@@ -21,17 +22,17 @@ module _ (p buffer : List ℕ) (accepted : Accepted p) (long : 17284 ≤ length 
   unfolding buildRefusal
   build-passes = rw (le-leb 17284 (length buffer) long) accepted
 
-  answer-given : buildAnswer p buffer ≡ given (length (bookOf p))
+  build-given : buildAnswer p buffer ≡ given (length (bookOf p))
   unfolding buildAnswer
-  answer-given = ap (λ (number : ℕ). answer number (length (bookOf p))) build-passes
+  build-given = sym (given-answer (buildRefusal p buffer) build-passes (length (bookOf p)))
 
-  buffer-written : buildBuffer p buffer ≡ written (bookOf p) buffer
+  build-written : buildBuffer p buffer ≡ written (bookOf p) buffer
   unfolding buildBuffer
-  buffer-written = ap (λ (number : ℕ). afterCall number (bookOf p) buffer) build-passes
+  build-written = given-buffer (buildRefusal p buffer) (bookOf p) buffer build-passes
 
   -- what stands in the buffer is the book of the policy
   pub book-built : bookBuilt p buffer ≡ bookOf p
-  book-built = ap₂ bookIn answer-given buffer-written ∙ take-at (bookOf p) (drop (length (bookOf p)) buffer) (length (bookOf p)) refl
+  book-built = ap₂ bookIn build-given build-written ∙ take-written (bookOf p) buffer (length (bookOf p)) refl
 
 -- ---- compare
 module _ (b d history : List ℕ) (first : bookRefusal b ≡ 0) (second : bookRefusal d ≡ 0) (frames : B.frame b ≡ B.frame d) (long : 256 ≤ length history) where
@@ -45,11 +46,11 @@ module _ (b d history : List ℕ) (first : bookRefusal b ≡ 0) (second : bookRe
 
   compare-given : compareAnswer b d history ≡ given (comparison b d)
   unfolding compareAnswer
-  compare-given = ap (λ (number : ℕ). answer number (comparison b d)) compare-passes
+  compare-given = sym (given-answer (compareRefusal b d history) compare-passes (comparison b d))
 
   compare-written : compareBuffer b d history ≡ written (historyBytes (comparison b d)) history
   unfolding compareBuffer
-  compare-written = ap (λ (number : ℕ). afterCall number (historyBytes (comparison b d)) history) compare-passes
+  compare-written = given-buffer (compareRefusal b d history) (historyBytes (comparison b d)) history compare-passes
 
 pub demand3-of-calls : (p q first second history : List ℕ) → Accepted p → Accepted q → 17284 ≤ length first → 17284 ≤ length second → 256 ≤ length history
     → Demand3OfCalls p q first second history

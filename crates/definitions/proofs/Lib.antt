@@ -1,6 +1,7 @@
 pub mod Cases
 pub mod Tests
 pub mod Answers
+pub mod Written
 pub mod Products
 pub mod Radix
 pub mod Requests

@@ -16,7 +16,7 @@ use Rattle.definitions.proofs.BookSteps.{is-state}
 use Rattle.tables.specs.States.{numberAmong, addState}
 use Rattle.tables.proofs.States.{number-place, number-low, added-few, added-none, added-known, added-new, number-new}
 use Rattle.explore.specs.Reaches.{Once, isNumber}
-use Rattle.tables.proofs.Buffers.{written-take, written-next}
+use Rattle.definitions.proofs.Written.{written-take, written-next}
 
 module _ (found : List ℕ) (n x : ℕ) (room : n < length found) where
   -- r is the number of x once it is put in, and more is the array then

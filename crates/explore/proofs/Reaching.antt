@@ -13,15 +13,15 @@ use Rattle.automaton.specs.Machine.{Machine, isState}
 use Rattle.automaton.specs.Explore.{Reached, reached}
 use Rattle.automaton.specs.Table.{table}
 use Rattle.automaton.proofs.Exploring.{Sound}
-use Rattle.automaton.proofs.Tables.{table-length}
+use Rattle.automaton.proofs.Tables.{table-length, row-of-table, table-wide}
 use Rattle.definitions.specs.Answer.{written}
 use Rattle.tables.specs.Rows.{laid}
 use Rattle.tables.specs.States.{states, afterCodes, rowAmong}
 use Rattle.explore.specs.Reaches.{Once, Visited, allReached, Reaches}
 use Rattle.tables.proofs.States.{length-states}
 use Rattle.tables.proofs.Searched.{Searched, searched-begun, searched-all, searched-low, searched-row, searched-turn, searched-done}
-use Rattle.tables.proofs.Buffers.{take-written, written-again, laid-none, laid-front, laid-length, laid-turn}
-use Rattle.tables.proofs.TableBytes.{row-of-table, table-wide}
+use Rattle.definitions.proofs.Written.{take-written, written-again}
+use Rattle.tables.proofs.Buffers.{laid-none, laid-front, laid-length, laid-turn}
 use Rattle.explore.proofs.Once.{once-one, once-after}
 use Rattle.automaton.proofs.Loops.{row-within}
 

@@ -6,7 +6,7 @@ use Prim.Native.Nat.{ℕ, _+_, _*_, _<_, _≤_}
 use native.Mathlib.Numerals.{add-one}
 use native.Mathlib.Omega.{arith}
 use lib.ListN.{length, getD, drop, set, drop-of-length-le}
-use lib.Seq.{getD-drop, drop-at, ext-getD}
+use lib.Seq.{getD-drop, ext-getD}
 use native.Mathlib.Nat.{add-zero}
 use Rattle.automaton.specs.Below.{listBelow}
 use Rattle.automaton.proofs.Counting.{length-list-below, getD-list-below}
@@ -15,7 +15,7 @@ use Rattle.definitions.specs.Answer.{written}
 use Rattle.automaton.proofs.Loops.{fold-more}
 use Rattle.definitions.specs.Bytes.{bit}
 use Rattle.definitions.specs.Situation.{emptySet, union}
-use Rattle.tables.proofs.Buffers.{length-written, written-next}
+use Rattle.definitions.proofs.Written.{drop-written, length-written, written-next}
 use Rattle.explore.specs.Images.{unionAt, unions, withImageAt, withImageIn, withImages, imageOfSetIn, imagesOfSet}
 
 -- the first c numbers are those of f, the others are as they were
@@ -33,8 +33,7 @@ module _ {f : ℕ → ℕ} {row₀ row : List ℕ} {c : ℕ} (now : Filling f ro
   -- the next number is still the old one
   pub filling-next : getD row c 0 ≡ getD row₀ c 0
   filling-next =
-      let past : drop c row ≡ drop c row₀ =
-      rw (now .is) (drop-at (listBelow c f) (drop (length (listBelow c f)) row₀) c (length-list-below f c) ∙ ap (λ (n : ℕ). drop n row₀) (length-list-below f c)) in
+      let past : drop c row ≡ drop c row₀ = rw (now .is) (drop-written (listBelow c f) row₀ c (omega (arith, length-list-below f c))) in
       sym (rw add-zero at (getD-drop c row 0 0)) ∙ ap (λ (l : List ℕ). getD l 0 0) past ∙ rw add-zero at (getD-drop c row₀ 0 0)
 
   pub filling-turn : {x : ℕ} → c < length row → x ≡ f c → Filling f row₀ (set row c x) (c + 1)

@@ -18,7 +18,7 @@ use Rattle.automaton.proofs.Congruence.{list-below-same}
 use Rattle.automaton.proofs.Turns.{visit-grows}
 use Rattle.explore.proofs.Once.{once-after}
 use Rattle.tables.proofs.Searching.{visit-stays}
-use Rattle.tables.proofs.Buffers.{take-written, length-written, written-next, written-again, written-take}
+use Rattle.definitions.proofs.Written.{take-written, length-written, written-next, written-again, written-take}
 
 module _ (m : Machine) (s : ℕ) (l : List ℕ) where
   -- the number of the state that code c leads to, once it has been tried

@@ -22,7 +22,7 @@ use Rattle.number.specs.Numbers.{Joined, joinedIn, classesReached, numbe
 use Rattle.tables.proofs.States.{states-bare, after-more, after-grows}
 use Rattle.definitions.proofs.Steps.{step-next}
 use Rattle.tables.proofs.TableBytes.{rows-count, bytes-are-table, cons-at, entry-is}
-use Rattle.tables.proofs.Buffers.{take-written, length-written, written-take, written-again}
+use Rattle.definitions.proofs.Written.{take-written, length-written, written-take, written-again}
 
 module _ {raw : List ℕ} {w : ℕ} {array : List ℕ} (ok : Joined raw w array) where
   abbrev n : ℕ

@@ -17,7 +17,7 @@ use Rattle.tables.specs.States.{numberAmong, addState}
 use Rattle.number.specs.Numbers.{numbersBelow}
 use Rattle.tables.proofs.States.{number-place, added-none, added-known, added-new, number-new, number-none}
 use Rattle.definitions.proofs.BookSteps.{is-state}
-use Rattle.tables.proofs.Buffers.{written-take, written-next}
+use Rattle.definitions.proofs.Written.{written-take, written-next}
 
 place-other : {A : Type 0} (f : A → Bool) (xs : List A) (x : A) → f x ≡ false → placeOf f (xs ++ (x ∷ [])) ≡ placeOf f xs
 place-other f [] x e = rw e

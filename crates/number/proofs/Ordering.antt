@@ -19,7 +19,7 @@ use Rattle.number.specs.Numbers.{Joined, NamesFirst, joinedIn, classesRe
 use Rattle.tables.proofs.States.{length-states, number-states}
 use Rattle.tables.proofs.Searched.{Searched, searched-begun, searched-all, searched-at, searched-low, searched-turn, searched-done}
 use Rattle.number.proofs.Classing.{is-table, count, class-low, class-own, reached-low, classes-sound}
-use Rattle.tables.proofs.Buffers.{take-written, length-written, written-again}
+use Rattle.definitions.proofs.Written.{take-written, length-written, written-again}
 
 -- i classes have been visited, k are found
 pub record Ordering (raw : List ℕ) (w : ℕ) (array order₀ order numbers : List ℕ) (k i : ℕ) : Type 0 where

@@ -1,4 +1,4 @@
--- Buffers that are written from the front, and rows that are written one after another into lent parts of a buffer: for every header, width and row.
+-- Lists that are filled from the front, and rows that are written one after another into lent parts of a buffer: for every header, width and row.
 use mathlib.Core.Path.{_≡_, refl, sym, ap, _∙_}
 use mathlib.Core.List.{List, [], _∷_, _++_, append-assoc, append-nil}
 use Prim.Native.Nat.{ℕ, zero, suc, _+_, _-_, _*_, _<_, _≤_}
@@ -6,39 +6,15 @@ use native.Mathlib.Nat.{zero-add, add-zero, zero-mul, suc-mul, add-comm, le-refl
 use native.Mathlib.Numerals.{add-one}
 use native.Mathlib.Omega.{arith}
 use lib.ListN.{length, getD, take, drop, set, length-append, length-drop, take-append-drop, drop-of-length-le}
-use lib.Seq.{take-all, getD-take, take-suc, take-suc-set, length-take-le, drop-cons, set-at, take-at, drop-at, drop-drop, drop-append-add, ext-getD}
+use lib.Seq.{take-all, getD-take, take-suc, take-suc-set, length-take-le, take-at, drop-at, drop-drop, ext-getD}
 use borrow.Rule.Slice.PartMut.{putMid}
 use Rattle.automaton.proofs.Counting.{length-list-below, getD-list-below}
+use Rattle.automaton.proofs.WellFormed.{Wide}
 use Rattle.definitions.specs.Answer.{written}
 use Rattle.definitions.specs.Book.{concat}
+use Rattle.definitions.proofs.Written.{take-written, drop-written}
+use Rattle.definitions.proofs.BookBytes.{wide-tail, length-concat}
 use Rattle.tables.specs.Rows.{rowIn, rowsIn, laid}
-
--- ---- written to the front
-module _ (front buffer : List ℕ) where
-  pub take-written : (n : ℕ) → length front ≡ n → take n (written front buffer) ≡ front
-  take-written n e = take-at front (drop (length front) buffer) n e
-
-  pub length-written : length front ≤ length buffer → length (written front buffer) ≡ length buffer
-  length-written h = rw (length-append, length-drop) (omega arith)
-
-  -- one more byte
-  pub written-next : (n x : ℕ) → length front ≡ n → n < length buffer → set (written front buffer) n x ≡ written (front ++ (x ∷ [])) buffer
-  written-next n x e h =
-      let here : drop (length front) buffer ≡ getD buffer n 0 ∷ drop (suc n) buffer = rw e (drop-cons buffer n 0 h) in
-      let long : length (front ++ (x ∷ [])) ≡ suc n = rw (length-append, e, add-one) in
-      rw (here, set-at front (getD buffer n 0) (drop (suc n) buffer) x n e, long, append-assoc)
-
-pub written-take : (n : ℕ) (buffer : List ℕ) → n ≤ length buffer → written (take n buffer) buffer ≡ buffer
-written-take n buffer h = rw (length-take-le n buffer h) (take-append-drop n buffer)
-
-pub written-again : (old new buffer : List ℕ) → length old ≤ length new → written new (written old buffer) ≡ written new buffer
-written-again old new buffer h =
-    let e : length old + (length new - length old) ≡ length new = omega arith in
-    ap (λ (rest : List ℕ). new ++ rest)
-    (ap (λ (n : ℕ). drop n (written old buffer)) (sym e)
-    ∙ drop-append-add old (drop (length old) buffer) (length new - length old)
-    ∙ drop-drop (length new - length old) (length old) buffer
-    ∙ ap (λ (n : ℕ). drop n buffer) e)
 
 -- ---- filled from the front, towards the list `whole`
 module _ (whole : List ℕ) where
@@ -58,19 +34,6 @@ concat-append : (A B : List (List ℕ)) → concat (A ++ B) ≡ concat A ++ conc
 concat-append [] B = refl
 concat-append (row ∷ A) B = ap (λ (l : List ℕ). row ++ l) (concat-append A B) ∙ sym (append-assoc row (concat A) (concat B))
 
--- every row has w entries
-abbrev pub Wide : ℕ → List (List ℕ) → Type 0
-Wide w rows = (s : ℕ) → s < length rows → length (getD rows s []) ≡ w
-
-tail-wide : (w : ℕ) (row : List ℕ) (rows : List (List ℕ)) → Wide w (row ∷ rows) → Wide w rows
-tail-wide w row rows wide s l = wide (suc s) (omega arith)
-
-pub length-concat : (w : ℕ) (rows : List (List ℕ)) → Wide w rows → length (concat rows) ≡ length rows * w
-length-concat w [] wide = sym (zero-mul w)
-length-concat w (row ∷ rows) wide =
-    let first : length row ≡ w = wide 0 (omega arith) in
-    rw (length-append, first, length-concat w rows (tail-wide w row rows wide), suc-mul) (omega arith)
-
 row-of-concat : (w : ℕ) (rows : List (List ℕ)) (rest : List ℕ) → Wide w rows → (k : ℕ) → k < length rows → rowIn (concat rows ++ rest) w k ≡ getD rows k []
 row-of-concat w [] rest wide k l = absurd (omega arith)
 row-of-concat w (row ∷ rows) rest wide zero l =
@@ -82,7 +45,7 @@ row-of-concat w (row ∷ rows) rest wide (suc k) l =
     ap (λ (n : ℕ). drop n ((row ++ concat rows) ++ rest)) (suc-mul k w ∙ add-comm (k * w) w)
     ∙ sym (drop-drop (k * w) w ((row ++ concat rows) ++ rest))
     ∙ ap (λ (x : List ℕ). drop (k * w) x) (rw append-assoc (drop-at row (concat rows ++ rest) w first)) in
-    ap (λ (x : List ℕ). take w x) past ∙ row-of-concat w rows rest (tail-wide w row rows wide) k (omega arith)
+    ap (λ (x : List ℕ). take w x) past ∙ row-of-concat w rows rest (wide-tail w row rows wide) k (omega arith)
 
 -- a table is read back from its bytes
 pub rows-of-concat : (w : ℕ) (rows : List (List ℕ)) (rest : List ℕ) → Wide w rows → rowsIn (concat rows ++ rest) (length rows) w ≡ rows
@@ -104,8 +67,7 @@ laid-front rows buffer = rw zero-add
 pub laid-after : (header : List ℕ) (rows : List (List ℕ)) (buffer : List ℕ) (h : ℕ) → length header ≡ h
     → laid h rows (written header buffer) ≡ written (header ++ concat rows) buffer
 laid-after header rows buffer h e =
-    let rest : drop (h + length (concat rows)) (written header buffer) ≡ drop (h + length (concat rows)) buffer =
-    rw (← e) (drop-append-add header (drop (length header) buffer) (length (concat rows)) ∙ drop-drop (length (concat rows)) (length header) buffer) in
+    let rest = drop-written header buffer (h + length (concat rows)) (omega arith) in
     let size : length (header ++ concat rows) ≡ h + length (concat rows) = rw (length-append, e) in
     rw (take-written header buffer h e, rest, size, append-assoc)
 

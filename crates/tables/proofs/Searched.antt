@@ -16,7 +16,7 @@ use Rattle.tables.proofs.States.{length-states, state-at, number-states
 use Rattle.automaton.proofs.Congruence.{list-below-same}
 use Rattle.automaton.proofs.Turns.{ToCome, to-come-begun, to-come-turn, to-come-front, to-come-done}
 use Rattle.tables.proofs.Searching.{row-stays}
-use Rattle.tables.proofs.Buffers.{take-written, length-written, written-take, written-again}
+use Rattle.definitions.proofs.Written.{take-written, length-written, written-take, written-again}
 
 -- s of the states in L, which are all that m reaches, have been visited, and n are found
 pub record Searched (m : Machine) (most : ℕ) (L : List Reached) (found₀ found : List ℕ) (n s : ℕ) : Type 0 where

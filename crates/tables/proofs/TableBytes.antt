@@ -6,15 +6,10 @@ use native.Mathlib.Omega.{arith}
 use native.Mathlib.Decide.{decLt}
 use lib.ListN.{length, getD, drop, length-drop, List·getD-eq-default}
 use lib.Seq.{length-take-le, getD-take, getD-drop}
-use Rattle.automaton.specs.Machine.{Machine, step}
-use Rattle.automaton.specs.Explore.{Reached, numberIn, unreached}
-use Rattle.automaton.specs.Table.{entryIn, rowOf, rowAt, table}
+use Rattle.automaton.specs.Table.{entryIn}
 use Rattle.automaton.specs.Join.{classOf}
 use Rattle.automaton.proofs.Counting.{length-list-below, getD-list-below}
-use Rattle.automaton.proofs.WellFormed.{IsTable, getD-map-within}
-use Rattle.automaton.proofs.Exploring.{stateAt}
-use Rattle.automaton.proofs.Tables.{table-length}
-use Rattle.tables.proofs.Buffers.{Wide}
+use Rattle.automaton.proofs.WellFormed.{IsTable}
 use Rattle.definitions.specs.Bytes.{byte}
 use Rattle.tables.specs.Rows.{rowIn, rowsIn, TableIn, EntriesBelow}
 use Rattle.automaton.proofs.Loops.{row-within}
@@ -66,13 +61,3 @@ module _ {raw : List ℕ} {n w : ℕ} (ok : TableIn raw n w) (t : ℕ) (p : 1 �
 
   pub state-entries : (k : ℕ) → n < k → EntriesBelow (drop ((t - 1) * w) raw) w k
   state-entries k m c b = omega (arith, getD-drop ((t - 1) * w) raw c 0, state-entry c b)
-
--- the rows of a machine's table
-module _ (m : Machine) (found : List Reached) where
-  pub row-of-table : (k : ℕ) → k < length found → getD (table m found) k [] ≡ rowOf m found (stateAt found k)
-  row-of-table k l = getD-map-within (rowAt m found) found k unreached [] l
-
-  pub table-wide : Wide (m .width) (table m found)
-  table-wide k l =
-      let inside : k < length found = omega (arith, table-length m found) in
-      ap length (row-of-table k inside) ∙ length-list-below (λ c. numberIn found (step m (stateAt found k) c)) (m .width)

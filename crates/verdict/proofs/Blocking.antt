@@ -19,6 +19,7 @@ use Rattle.definitions.specs.Book.{events, requests, width, states, entry, book
 use Rattle.definitions.specs.Refusal.{bookRefusal}
 use Rattle.definitions.specs.Demands.{Events, BlockedAfter}
 use Rattle.definitions.specs.Verdict.{someRequest, answered, isBlocked, historyOf}
+use Rattle.definitions.proofs.Written.{written-read}
 use Rattle.definitions.proofs.Accepted.{BookPassed, book-passed}
 use Rattle.definitions.proofs.BookSteps.{is-state, state-is, has-states, step-is-entry}
 use Rattle.definitions.proofs.Blocking.{unanswered-to, unanswered-from, blocked-to, blocked-from}
@@ -26,7 +27,7 @@ use Rattle.search.specs.Trail as Trail
 use Rattle.search.specs.Found.{codesFrom, statesFrom, Holds}
 use Rattle.search.proofs.Reading.{holds-inside, holds-lead}
 use Rattle.verdict.specs.Marks.{marked, unmarkedAt, leadsToMark, Marks, Settled, blockedIn}
-use Rattle.verdict.proofs.Places.{first-none, first-some, take-written}
+use Rattle.verdict.proofs.Places.{first-none, first-some}
 
 is-false : (t : Bool) → (t ≡ true → ⊥) → t ≡ false
 is-false true f = absurd (f refl)
@@ -130,4 +131,4 @@ module _ (b : List ℕ) (refusal : bookRefusal b ≡ 0) (marks : List ℕ) (M : 
 
   pub tells-blocked : (k m : ℕ) (buffer after : List ℕ) → k ≡ lowestBelow n (unmarkedAt marks order) → k < n
       → m ≡ length (Trail.historyAt trail k) → after ≡ written (Trail.historyAt trail k) buffer → Tells (some (take m after)) buffer after
-  tells-blocked k m buffer after ek l em ea = rw (blocked-some k ek l, take-written (Trail.historyAt trail k) buffer after m em ea) (refl, ea)
+  tells-blocked k m buffer after ek l em ea = rw (blocked-some k ek l, written-read (Trail.historyAt trail k) buffer m after em ea) (refl, ea)

@@ -6,16 +6,15 @@ use mathlib.Core.List.{List, [], _∷_, _++_}
 use mathlib.Core.Option.{Option, none, some}
 use Prim.Native.Nat.{ℕ, zero, suc, _≤_, _<_}
 use native.Mathlib.Omega.{arith}
-use lib.ListN.{length, take, drop}
-use lib.Seq.{take-at}
+use lib.ListN.{length, take}
 use Rattle.automaton.specs.Below.{lowestBelow, listBelow}
-use Rattle.automaton.specs.History.{History}
 use Rattle.automaton.specs.Explore.{Reached, firstThat}
 use Rattle.automaton.proofs.Counting.{below-suc, lowest-below}
 use Rattle.definitions.specs.Answer.{written, historyBytes}
 use Rattle.definitions.specs.Bytes.{byte}
 use Rattle.definitions.specs.Book.{requests}
 use Rattle.definitions.specs.Verdict.{someRequest, Found, foundHistory}
+use Rattle.definitions.proofs.Written.{written-read}
 use Rattle.search.specs.Trail.{historyAt}
 use Rattle.search.specs.Found.{reachedAt, foundIn}
 use Rattle.verdict.specs.Requests.{testOf, someAt, findingIn}
@@ -73,10 +72,6 @@ module _ (test : ℕ → Bool) (order trail : List ℕ) (n : ℕ) (f : ℕ → B
       let passes : f k ≡ true = rw e (lowest .passes (omega arith)) in
       first-below test (reachedAt order trail) n k l (same k l ∙ passes) (λ j b. same j (omega arith) ∙ lowest .first j (omega arith))
 
--- the history that is written is read from the front of the buffer
-pub take-written : (h : History) (buffer after : List ℕ) (n : ℕ) → n ≡ length h → after ≡ written h buffer → take n after ≡ h
-take-written h buffer after n en ea = rw ea (take-at h (drop (length h) buffer) n (sym en))
-
 -- ---- the findings with a request
 module _ (sought : Sought) (b order trail : List ℕ) (n : ℕ) where
   -- an answer and a buffer that say what is found
@@ -99,4 +94,4 @@ module _ (sought : Sought) (b order trail : List ℕ) (n : ℕ) where
       subst (λ (t : ℕ). r ≡ lowestBelow (requests b) (testOf sought b t)) es (subst (λ (p : ℕ). r ≡ lowestBelow p (testOf sought b s)) eq er) in
       let is : firstThat (someRequest (testOf sought) b) (foundIn n order trail) ≡ some (reachedAt order trail k) =
       first-some (someRequest (testOf sought) b) order trail n (someAt sought b order) (λ k b. refl) k ek l in
-      rw (is, take-written (historyAt trail k) buffer after m em ea, lowest) (refl, ea)
+      rw (is, written-read (historyAt trail k) buffer m after em ea, lowest) (refl, ea)

@@ -4,16 +4,18 @@ use mathlib.Core.List.{List, [], _∷_, _++_, map-append}
 use Prim.Native.Nat.{ℕ, _+_, _-_, _*_, _<_, _≤_}
 use native.Mathlib.Omega.{arith}
 use native.Mathlib.Numerals.{add-one}
-use lib.ListN.{length, getD, take, drop, set, length-map, length-append, length-drop}
+use lib.ListN.{length, getD, take, drop, set, length-map, length-drop}
 use lib.Seq.{length-take-le, take-suc, sets, sets-eq}
-use Rattle.automaton.proofs.WellFormed.{getD-map-within}
+use Rattle.automaton.proofs.WellFormed.{getD-map-within, Wide}
 use Rattle.definitions.specs.Answer.{written}
 use Rattle.definitions.specs.Bytes.{byte}
 use Rattle.definitions.specs.Policy.{frame, presentCount}
 use Rattle.definitions.specs.Book.{concat, bookBytes}
 use Rattle.tables.specs.Rows.{lookedUp, laid, TableIn}
 use Rattle.write.specs.Rows.{numberedRow, numberedRows, bookHeader, StatesBelow}
-use Rattle.tables.proofs.Buffers.{Wide, written-next, length-concat, laid-after}
+use Rattle.definitions.proofs.Written.{written-next}
+use Rattle.definitions.proofs.BookBytes.{length-of-bytes}
+use Rattle.tables.proofs.Buffers.{laid-after}
 use Rattle.tables.proofs.TableBytes.{state-row}
 
 -- ---- one row
@@ -59,9 +61,6 @@ module _ (p : List ℕ) (rows : List (List ℕ)) where
   book-written : (buffer : List ℕ) → laid 12 rows (written (bookHeader p (length rows)) buffer) ≡ written (bookBytes (frame p) rows) buffer
   book-written buffer = laid-after (bookHeader p (length rows)) rows buffer 12 refl ∙ ap (λ (bytes : List ℕ). written bytes buffer) (sym book-is)
 
-  pub book-length : (w : ℕ) → Wide w rows → length (bookBytes (frame p) rows) ≡ 12 + length rows * w
-  book-length w wide = omega (arith, ap length book-is, length-append (bookHeader p (length rows)) (concat rows), length-concat w rows wide)
-
 -- a header, and then the rows
 pub book-done : (p raw : List ℕ) (w : ℕ) (numbers order book begun all : List ℕ) → TableIn raw (length numbers - 1) w → StatesBelow order (length numbers)
     → begun ≡ written (bookHeader p (length order)) book → all ≡ laid 12 (numberedRows raw w numbers order) begun
@@ -70,7 +69,7 @@ pub book-done : (p raw : List ℕ) (w : ℕ) (numbers order book begun all : Lis
 book-done p raw w numbers order book begun all ok low eb ea =
     let rows = numberedRows raw w numbers order in
     let count = numbered-count raw w numbers order ok low in (
-      ap (λ (n : ℕ). 12 + n * w) (sym count) ∙ sym (book-length p rows w (numbered-wide raw w numbers order ok low)),
+      ap (λ (n : ℕ). 12 + n * w) (sym count) ∙ sym (length-of-bytes (frame p) rows refl w (numbered-wide raw w numbers order ok low)),
       ea ∙ ap (laid 12 rows) (eb ∙ ap (λ (n : ℕ). written (bookHeader p n) book) (sym count)) ∙ book-written p rows book,
     )
 

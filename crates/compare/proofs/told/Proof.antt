@@ -4,7 +4,7 @@ use mathlib.Core.Option.{some}
 use borrow.Author.Needs.{needs}
 use Rattle.automaton.specs.History.{History}
 use Rattle.definitions.specs.Answer.{given}
-use Rattle.compare.proofs.Answering.{take-written}
+use Rattle.definitions.proofs.Written.{written-read}
 use Rattle.compare.proofs.told.Statement.{statement}
 use Rattle.compare.proofs.told.Tie as tie
 
@@ -26,7 +26,7 @@ same-length c = search needs
 returns-2 : tie.Need-returns-2
 returns-2 c =
     let w = c .before .before .write-difference .ensures in
-    rw (c .before .before .before .before .before .spot .given .1) (ap (λ (h : History). given (some h)) (take-written _ _ _ _ (w .0) (w .1)), w .1)
+    rw (c .before .before .before .before .before .spot .given .1) (ap (λ (h : History). given (some h)) (written-read _ _ _ _ (w .0) (w .1)), w .1)
 
 pub told-spec : {M : Type 1} → statement M
 told-spec =

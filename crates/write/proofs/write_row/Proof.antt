@@ -1,7 +1,7 @@
 -- `write_row` meets its contract: the entries passed so far are written.
 use Rattle.definitions.specs.Bytes.{byte}
 use Rattle.write.proofs.Writing.{looked-length, row-turn}
-use Rattle.tables.proofs.Buffers.{length-written}
+use Rattle.definitions.proofs.Written.{length-written}
 use Rattle.tables.specs.Rows.{lookedUp}
 use Rattle.definitions.specs.Answer.{written}
 use lib.ListN.{length}
