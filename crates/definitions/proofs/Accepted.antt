@@ -15,7 +15,7 @@ use Rattle.definitions.specs.Bytes.{byte, hasMark, hasVersion1}
 use Rattle.definitions.specs.Policy.{events, fields, variables, rules, count, requests, width, exactLength, rule, mask, decision, ge, lt, change, eventChange}
 use Rattle.definitions.specs.Valuation.{valuations}
 use Rattle.definitions.specs.Book as B
-use Rattle.definitions.specs.Refusal.{rangesHold, countInRange, countsHold, maskHolds, ruleMasksHold, masksHold, testHolds, ruleHolds, eventChangeHolds, eventHolds, valuesHold, row10, row9, row8, row7, row6, row5, row4, row3, fileRefusal, situations, row11, policyRefusal, countHolds, layoutHolds, entryHolds, rowHolds, entriesHold, row14, row13, bookRefusal}
+use Rattle.definitions.specs.Refusal.{rangesHold, countInRange, countsHold, rulePasses, allRules, maskHolds, ruleMasksHold, masksHold, testHolds, ruleHolds, eventChangeHolds, eventHolds, valuesHold, row10, row9, row8, row7, row6, row5, row4, row3, fileRefusal, situations, row11, policyRefusal, countHolds, layoutHolds, entryHolds, rowHolds, entriesHold, row14, row13, bookRefusal}
 use Rattle.definitions.proofs.Tests.{both-true, judge-zero, then-judge-zero, within-true, mark-true, version-true}
 use Rattle.definitions.proofs.Radix.{product-some}
 use Rattle.definitions.proofs.Requests.{some-request}
@@ -91,7 +91,7 @@ module _ (p : List ℕ) where
 
   pub masks-true : masksHold p ≡ true → (k f : ℕ) → k < rules p → f < fields p → (1 ≤ mask (rule p k) f) × (mask (rule p k) f < 2 ^ count p f)
   masks-true e k f lk lf =
-      let holds = all-below-at (maskHolds p k) (fields p) (all-below-at (ruleMasksHold p) (rules p) e k lk) f lf in
+      let holds = all-below-at (maskHolds p (rule p k)) (fields p) (all-below-at (rulePasses p (ruleMasksHold p)) (rules p) e k lk) f lf in
       let both = and-true _ _ holds in
       (leb-true 1 (mask (rule p k) f) (both .0), ltb-true (mask (rule p k) f) (2 ^ count p f) (both .1))
 
@@ -99,18 +99,18 @@ module _ (p : List ℕ) where
       × ((j : ℕ) → j < variables p → (ge p (rule p k) j ≤ 63) × (lt p (rule p k) j ≤ 63) × (change p (rule p k) j ≤ 2))
   rule-true e k l = (leb-true (decision p (rule p k)) 1 (holds .0), test)
     where
-      holds : (leb (decision p (rule p k)) 1 ≡ true) × (allBelow (variables p) (testHolds p k) ≡ true)
-      holds = and-true _ _ (all-below-at (ruleHolds p) (rules p) (and-true _ _ e .0) k l)
+      holds : (leb (decision p (rule p k)) 1 ≡ true) × (allBelow (variables p) (testHolds p (rule p k)) ≡ true)
+      holds = and-true _ _ (all-below-at (rulePasses p (ruleHolds p)) (rules p) (and-true _ _ e .0) k l)
 
       test : (j : ℕ) → j < variables p → (ge p (rule p k) j ≤ 63) × (lt p (rule p k) j ≤ 63) × (change p (rule p k) j ≤ 2)
       test j m =
-          let two = and-true _ _ (all-below-at (testHolds p k) (variables p) (holds .1) j m) in
+          let two = and-true _ _ (all-below-at (testHolds p (rule p k)) (variables p) (holds .1) j m) in
           let one = and-true _ _ (two .0) in
           (leb-true (ge p (rule p k) j) 63 (one .0), leb-true (lt p (rule p k) j) 63 (one .1), leb-true (change p (rule p k) j) 2 (two .1))
 
   pub event-true : valuesHold p ≡ true → (e j : ℕ) → e < events p → j < variables p → eventChange p e j ≤ 2
   event-true h e j le lj =
-      let holds = and-true (allBelow (rules p) (ruleHolds p)) (allBelow (events p) (eventHolds p)) h .1 in
+      let holds = and-true (allRules p (ruleHolds p)) (allBelow (events p) (eventHolds p)) h .1 in
       leb-true (eventChange p e j) 2 (all-below-at (eventChangeHolds p e) (variables p) (all-below-at (eventHolds p) (events p) holds e le) j lj)
 
   -- ---- what acceptance gives

@@ -25,22 +25,29 @@ countInRange p f = within 1 (count p f) 16
 abbrev pub countsHold : List ℕ → Bool
 countsHold p = allBelow (fields p) (countInRange p) && leb (requests p) 64
 
--- "A mask has at least one bit set and none at or above its field's count"
-abbrev pub maskHolds : List ℕ → ℕ → ℕ → Bool
-maskHolds p k f = leb 1 (mask (rule p k) f) && ltb (mask (rule p k) f) (2 ^ count p f)
+-- a test of rules, each given as the part that begins with its record: rule k passes, and every rule does
+abbrev pub rulePasses : List ℕ → (List ℕ → Bool) → ℕ → Bool
+rulePasses p test k = test (rule p k)
 
-abbrev pub ruleMasksHold : List ℕ → ℕ → Bool
-ruleMasksHold p k = allBelow (fields p) (maskHolds p k)
+abbrev pub allRules : List ℕ → (List ℕ → Bool) → Bool
+allRules p test = allBelow (rules p) (rulePasses p test)
+
+-- "A mask has at least one bit set and none at or above its field's count"
+abbrev pub maskHolds : List ℕ → List ℕ → ℕ → Bool
+maskHolds p q f = leb 1 (mask q f) && ltb (mask q f) (2 ^ count p f)
+
+abbrev pub ruleMasksHold : List ℕ → List ℕ → Bool
+ruleMasksHold p q = allBelow (fields p) (maskHolds p q)
 
 abbrev pub masksHold : List ℕ → Bool
-masksHold p = allBelow (rules p) (ruleMasksHold p)
+masksHold p = allRules p (ruleMasksHold p)
 
 -- "decision (0 reject, 1 accept)"; "ge and lt are 0 to 63"; "Change is 0 none, 1 add one, 2 set to zero"
-abbrev pub testHolds : List ℕ → ℕ → ℕ → Bool
-testHolds p k j = leb (ge p (rule p k) j) 63 && leb (lt p (rule p k) j) 63 && leb (change p (rule p k) j) 2
+abbrev pub testHolds : List ℕ → List ℕ → ℕ → Bool
+testHolds p q j = leb (ge p q j) 63 && leb (lt p q j) 63 && leb (change p q j) 2
 
-abbrev pub ruleHolds : List ℕ → ℕ → Bool
-ruleHolds p k = leb (decision p (rule p k)) 1 && allBelow (variables p) (testHolds p k)
+abbrev pub ruleHolds : List ℕ → List ℕ → Bool
+ruleHolds p q = leb (decision p q) 1 && allBelow (variables p) (testHolds p q)
 
 abbrev pub eventChangeHolds : List ℕ → ℕ → ℕ → Bool
 eventChangeHolds p e j = leb (eventChange p e j) 2
@@ -49,7 +56,7 @@ abbrev pub eventHolds : List ℕ → ℕ → Bool
 eventHolds p e = allBelow (variables p) (eventChangeHolds p e)
 
 abbrev pub valuesHold : List ℕ → Bool
-valuesHold p = allBelow (rules p) (ruleHolds p) && allBelow (events p) (eventHolds p)
+valuesHold p = allRules p (ruleHolds p) && allBelow (events p) (eventHolds p)
 
 -- "over 64 valuations"
 unfoldable pub row10 : List ℕ → ℕ

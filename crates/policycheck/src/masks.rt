@@ -3,15 +3,14 @@ ghost use mathlib.Core.Path.{_≡_};
 ghost use mathlib.Core.Bool.{true};
 ghost use Prim.Native.Nat.{_<_};
 ghost use Rattle.definitions.specs.Policy.{fields};
-ghost use Rattle.definitions.specs.Refusal.{countsHold, masksHold};
+ghost use Rattle.definitions.specs.Refusal.{countsHold, maskHolds, ruleMasksHold, masksHold};
 ghost use Rattle.policy.specs.Sized.{TableOf, RuleOf};
-ghost use Rattle.policycheck.specs.Record.{partMaskHolds, partMasksHold};
 use policy::header;
 use policy::record;
 
 fn mask_holds(policy: &[u8], rule: &[u8], f: usize) -> bool
     requires { ⌜ RuleOf (now policy) (now rule) × (countsHold (now policy) ≡ true) × (f < fields (now policy)) ⌝ }
-    ensures { λ r. ⌜ r ≡ partMaskHolds (now (policy .entry)) (now (rule .entry)) f ⌝ }
+    ensures { λ r. ⌜ r ≡ maskHolds (now (policy .entry)) (now (rule .entry)) f ⌝ }
 {
     let mask = record::mask(rule, f);
     if mask < 1 {
@@ -22,7 +21,7 @@ fn mask_holds(policy: &[u8], rule: &[u8], f: usize) -> bool
 
 fn rule_masks_hold(policy: &[u8], rule: &[u8]) -> bool
     requires { ⌜ RuleOf (now policy) (now rule) × (countsHold (now policy) ≡ true) ⌝ }
-    ensures { λ r. ⌜ r ≡ partMasksHold (now (policy .entry)) (now (rule .entry)) ⌝ }
+    ensures { λ r. ⌜ r ≡ ruleMasksHold (now (policy .entry)) (now (rule .entry)) ⌝ }
 {
     let n = header::fields(policy);
     let mut f = 0;

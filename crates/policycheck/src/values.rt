@@ -2,16 +2,15 @@
 ghost use mathlib.Core.Path.{_≡_};
 ghost use Prim.Native.Nat.{_<_};
 ghost use Rattle.automaton.specs.Below.{allBelow};
-ghost use Rattle.definitions.specs.Policy.{events, variables, rules};
-ghost use Rattle.definitions.specs.Refusal.{ruleHolds, eventHolds, valuesHold};
+ghost use Rattle.definitions.specs.Policy.{events, variables};
+ghost use Rattle.definitions.specs.Refusal.{allRules, testHolds, ruleHolds, eventHolds, valuesHold};
 ghost use Rattle.policy.specs.Sized.{TableOf, RuleOf, ChangesOf};
-ghost use Rattle.policycheck.specs.Record.{partTestHolds, partHolds};
 use policy::header;
 use policy::record;
 
 fn test_holds(policy: &[u8], rule: &[u8], j: usize) -> bool
     requires { ⌜ RuleOf (now policy) (now rule) × (j < variables (now policy)) ⌝ }
-    ensures { λ r. ⌜ r ≡ partTestHolds (now (policy .entry)) (now (rule .entry)) j ⌝ }
+    ensures { λ r. ⌜ r ≡ testHolds (now (policy .entry)) (now (rule .entry)) j ⌝ }
 {
     if 63 < record::ge(policy, rule, j) {
         return false;
@@ -24,7 +23,7 @@ fn test_holds(policy: &[u8], rule: &[u8], j: usize) -> bool
 
 fn rule_holds(policy: &[u8], rule: &[u8]) -> bool
     requires { ⌜ RuleOf (now policy) (now rule) ⌝ }
-    ensures { λ r. ⌜ r ≡ partHolds (now (policy .entry)) (now (rule .entry)) ⌝ }
+    ensures { λ r. ⌜ r ≡ ruleHolds (now (policy .entry)) (now (rule .entry)) ⌝ }
 {
     if 1 < record::decision(policy, rule) {
         return false;
@@ -42,7 +41,7 @@ fn rule_holds(policy: &[u8], rule: &[u8]) -> bool
 
 fn rules_hold(policy: &[u8], table: &[u8]) -> bool
     requires { ⌜ TableOf (now policy) (now table) ⌝ }
-    ensures { λ r. ⌜ r ≡ allBelow (rules (now (policy .entry))) (ruleHolds (now (policy .entry))) ⌝ }
+    ensures { λ r. ⌜ r ≡ allRules (now (policy .entry)) (ruleHolds (now (policy .entry))) ⌝ }
 {
     let size = header::rule_size(policy);
     let n = header::rules(policy);

@@ -1,12 +1,12 @@
 -- `contents_refusal` meets its contract. Each row that has passed leaves the number to the rows after it.
-use mathlib.Core.Path.{_≡_, refl, sym, _∙_}
+use mathlib.Core.Path.{_≡_, refl}
 use mathlib.Core.Bool.{true}
 use Prim.Native.Nat.{ℕ}
 use lib.Dec.{leb}
-use borrow.Author.Tests.{not-true, not-false}
 use borrow.Author.Needs.{needs}
 use Rattle.definitions.specs.Refusal.{row7, row8, row9, row10, countsHold, masksHold, valuesHold}
 use Rattle.definitions.specs.Valuation.{valuations}
+use Rattle.definitions.proofs.Tests.{failed, held}
 use Rattle.policy.proofs.Parts.{lent-table}
 use Rattle.policycheck.proofs.Rows.{stops, goes-on}
 use Rattle.policycheck.proofs.contents_refusal.Statement.{statement}
@@ -15,7 +15,7 @@ use Rattle.policycheck.proofs.contents_refusal.Tie as tie
 counts-pass : (c : tie.Else1)
     → let start = c .before .before .before in
     countsHold (start .args .policy .now) ≡ true
-counts-pass c = sym (c .before .counts-hold .ensures) ∙ not-false (c .before .counts-hold .result) (c .if1 .left)
+counts-pass c = held _ _ (c .before .counts-hold .ensures) (c .if1 .left)
 
 after7 : (c : tie.Else1) (r : ℕ)
     → let start = c .before .before .before in
@@ -32,7 +32,7 @@ unfolding row8
 after8 c r e =
     let start = c .before .before .before .before .before .before .before in
     after7 (c .before .before .before .before) r
-    (goes-on 8 (masksHold (start .args .policy .now)) (row9 (start .args .policy .now)) r (sym (c .before .masks-hold .ensures) ∙ not-false (c .before .masks-hold .result) (c .if2 .left)) e)
+    (goes-on 8 (masksHold (start .args .policy .now)) (row9 (start .args .policy .now)) r (held _ _ (c .before .masks-hold .ensures) (c .if2 .left)) e)
 
 after9 : (c : tie.Else3) (r : ℕ)
     → let start = c .before .before .before .before .before .before .before .before .before in
@@ -41,7 +41,7 @@ unfolding row9
 after9 c r e =
     let start = c .before .before .before .before .before .before .before .before .before in
     after8 (c .before .before) r
-    (goes-on 9 (valuesHold (start .args .policy .now)) (row10 (start .args .policy .now)) r (sym (c .before .values-hold .ensures) ∙ not-false (c .before .values-hold .result) (c .if3 .left)) e)
+    (goes-on 9 (valuesHold (start .args .policy .now)) (row10 (start .args .policy .now)) r (held _ _ (c .before .values-hold .ensures) (c .if3 .left)) e)
 
 counts-hold-requires : tie.Need-counts-hold-requires
 counts-hold-requires c κs = search needs
@@ -50,7 +50,7 @@ returns : tie.Need-returns
 unfolding row7
 returns c =
     let start = c .before .before .before in
-    stops 7 (countsHold (start .args .policy .now)) (row8 (start .args .policy .now)) (sym (c .before .counts-hold .ensures) ∙ not-true (c .before .counts-hold .result) (c .if1 .taken))
+    stops 7 (countsHold (start .args .policy .now)) (row8 (start .args .policy .now)) (failed _ _ (c .before .counts-hold .ensures) (c .if1 .taken))
 
 fields-requires : tie.Need-fields-requires
 fields-requires c κs = search needs
@@ -77,7 +77,7 @@ unfolding row8
 returns-2 c =
     let start = c .before .before .before .before .before .before .before in
     after7 (c .before .before .before .before) 8
-    (stops 8 (masksHold (start .args .policy .now)) (row9 (start .args .policy .now)) (sym (c .before .masks-hold .ensures) ∙ not-true (c .before .masks-hold .result) (c .if2 .taken)))
+    (stops 8 (masksHold (start .args .policy .now)) (row9 (start .args .policy .now)) (failed _ _ (c .before .masks-hold .ensures) (c .if2 .taken)))
 
 values-hold-requires : tie.Need-values-hold-requires
 values-hold-requires c κs =
@@ -90,7 +90,7 @@ unfolding row9
 returns-3 c =
     let start = c .before .before .before .before .before .before .before .before .before in
     after8 (c .before .before) 9
-    (stops 9 (valuesHold (start .args .policy .now)) (row10 (start .args .policy .now)) (sym (c .before .values-hold .ensures) ∙ not-true (c .before .values-hold .result) (c .if3 .taken)))
+    (stops 9 (valuesHold (start .args .policy .now)) (row10 (start .args .policy .now)) (failed _ _ (c .before .values-hold .ensures) (c .if3 .taken)))
 
 valuations-hold-requires : tie.Need-valuations-hold-requires
 valuations-hold-requires c κs =
@@ -103,14 +103,14 @@ unfolding row10
 returns-4 c =
     let start = c .before .before .before .before .before .before .before .before .before .before .before in
     after9 (c .before .before) 10
-    (stops 10 (leb (valuations (start .args .policy .now)) 64) 0 (sym (c .before .valuations-hold .ensures) ∙ not-true (c .before .valuations-hold .result) (c .if4 .taken)))
+    (stops 10 (leb (valuations (start .args .policy .now)) 64) 0 (failed _ _ (c .before .valuations-hold .ensures) (c .if4 .taken)))
 
 returns-5 : tie.Need-returns-5
 unfolding row10
 returns-5 c =
     let start = c .before .before .before .before .before .before .before .before .before .before .before in
     after9 (c .before .before) 0
-    (goes-on 10 (leb (valuations (start .args .policy .now)) 64) 0 0 (sym (c .before .valuations-hold .ensures) ∙ not-false (c .before .valuations-hold .result) (c .if4 .left)) refl)
+    (goes-on 10 (leb (valuations (start .args .policy .now)) 64) 0 0 (held _ _ (c .before .valuations-hold .ensures) (c .if4 .left)) refl)
 
 pub contents-refusal-spec : {M : Type 1} → statement M
 contents-refusal-spec =

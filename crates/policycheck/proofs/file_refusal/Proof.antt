@@ -1,14 +1,15 @@
 -- `file_refusal` meets its contract. Each row that has passed leaves the number to the rows after it.
-use mathlib.Core.Path.{_≡_, sym, _∙_}
+use mathlib.Core.Path.{_≡_}
 use mathlib.Core.Bool.{true}
 use Prim.Native.Nat.{ℕ}
 use lib.Dec.{leb, eqb}
 use lib.ListN.{length}
-use borrow.Author.Tests.{le-leb, lt-leb, not-true, not-false}
+use borrow.Author.Tests.{le-leb, lt-leb}
 use borrow.Author.Needs.{needs}
 use Rattle.definitions.specs.Bytes.{hasMark, hasVersion1}
 use Rattle.definitions.specs.Policy.{exactLength}
 use Rattle.definitions.specs.Refusal.{fileRefusal, row3, row4, row5, row6, row7, rangesHold}
+use Rattle.definitions.proofs.Tests.{failed, held}
 use Rattle.policy.proofs.Checked.{sized}
 use Rattle.policycheck.proofs.Rows.{stops, goes-on}
 use Rattle.policycheck.proofs.file_refusal.Statement.{statement}
@@ -17,12 +18,12 @@ use Rattle.policycheck.proofs.file_refusal.Tie as tie
 ranges-pass : (c : tie.Else4)
     → let start = c .before .before .before .before .before .before .before .before in
     rangesHold (start .args .policy .now) ≡ true
-ranges-pass c = sym (c .before .ranges-hold .ensures) ∙ not-false (c .before .ranges-hold .result) (c .if4 .left)
+ranges-pass c = held _ _ (c .before .ranges-hold .ensures) (c .if4 .left)
 
 length-passes : (c : tie.Else5)
     → let start = c .before .before .before .before .before .before .before .before .before .before in
     eqb (length (start .args .policy .now)) (exactLength (start .args .policy .now)) ≡ true
-length-passes c = sym (c .before .length-holds .ensures) ∙ not-false (c .before .length-holds .result) (c .if5 .left)
+length-passes c = held _ _ (c .before .length-holds .ensures) (c .if5 .left)
 
 after2 : (c : tie.Else1) (r : ℕ)
     → let start = c .before .before in
@@ -39,7 +40,7 @@ unfolding row3
 after3 c r e =
     let start = c .before .before .before .before in
     after2 (c .before .before) r
-    (goes-on 3 (hasMark 0x50 0x4F 0x4C (start .args .policy .now)) (row4 (start .args .policy .now)) r (sym (c .before .mark-holds .ensures) ∙ not-false (c .before .mark-holds .result) (c .if2 .left)) e)
+    (goes-on 3 (hasMark 0x50 0x4F 0x4C (start .args .policy .now)) (row4 (start .args .policy .now)) r (held _ _ (c .before .mark-holds .ensures) (c .if2 .left)) e)
 
 after4 : (c : tie.Else3) (r : ℕ)
     → let start = c .before .before .before .before .before .before in
@@ -48,7 +49,7 @@ unfolding row4
 after4 c r e =
     let start = c .before .before .before .before .before .before in
     after3 (c .before .before) r
-    (goes-on 4 (hasVersion1 (start .args .policy .now)) (row5 (start .args .policy .now)) r (sym (c .before .version-holds .ensures) ∙ not-false (c .before .version-holds .result) (c .if3 .left)) e)
+    (goes-on 4 (hasVersion1 (start .args .policy .now)) (row5 (start .args .policy .now)) r (held _ _ (c .before .version-holds .ensures) (c .if3 .left)) e)
 
 after5 : (c : tie.Else4) (r : ℕ)
     → let start = c .before .before .before .before .before .before .before .before in
@@ -81,7 +82,7 @@ unfolding row3
 returns-2 c =
     let start = c .before .before .before .before in
     after2 (c .before .before) 3
-    (stops 3 (hasMark 0x50 0x4F 0x4C (start .args .policy .now)) (row4 (start .args .policy .now)) (sym (c .before .mark-holds .ensures) ∙ not-true (c .before .mark-holds .result) (c .if2 .taken)))
+    (stops 3 (hasMark 0x50 0x4F 0x4C (start .args .policy .now)) (row4 (start .args .policy .now)) (failed _ _ (c .before .mark-holds .ensures) (c .if2 .taken)))
 
 version-holds-requires : tie.Need-version-holds-requires
 version-holds-requires c κs = search needs
@@ -91,7 +92,7 @@ unfolding row4
 returns-3 c =
     let start = c .before .before .before .before .before .before in
     after3 (c .before .before) 4
-    (stops 4 (hasVersion1 (start .args .policy .now)) (row5 (start .args .policy .now)) (sym (c .before .version-holds .ensures) ∙ not-true (c .before .version-holds .result) (c .if3 .taken)))
+    (stops 4 (hasVersion1 (start .args .policy .now)) (row5 (start .args .policy .now)) (failed _ _ (c .before .version-holds .ensures) (c .if3 .taken)))
 
 ranges-hold-requires : tie.Need-ranges-hold-requires
 ranges-hold-requires c κs = search needs
@@ -101,7 +102,7 @@ unfolding row5
 returns-4 c =
     let start = c .before .before .before .before .before .before .before .before in
     after4 (c .before .before) 5
-    (stops 5 (rangesHold (start .args .policy .now)) (row6 (start .args .policy .now)) (sym (c .before .ranges-hold .ensures) ∙ not-true (c .before .ranges-hold .result) (c .if4 .taken)))
+    (stops 5 (rangesHold (start .args .policy .now)) (row6 (start .args .policy .now)) (failed _ _ (c .before .ranges-hold .ensures) (c .if4 .taken)))
 
 length-holds-requires : tie.Need-length-holds-requires
 length-holds-requires c κs = search needs
@@ -112,7 +113,7 @@ returns-5 c =
     let start = c .before .before .before .before .before .before .before .before .before .before in
     after5 (c .before .before) 6
     (stops 6 (eqb (length (start .args .policy .now)) (exactLength (start .args .policy .now))) (row7 (start .args .policy .now))
-    (sym (c .before .length-holds .ensures) ∙ not-true (c .before .length-holds .result) (c .if5 .taken)))
+    (failed _ _ (c .before .length-holds .ensures) (c .if5 .taken)))
 
 contents-refusal-requires : tie.Need-contents-refusal-requires
 contents-refusal-requires c κs =

@@ -1,15 +1,15 @@
 -- `counts_in_range` meets its contract. The loop's invariant: every count before f is in its range.
-use mathlib.Core.Path.{_≡_, sym, ap, _∙_}
+use mathlib.Core.Path.{_≡_, ap, _∙_}
 use mathlib.Core.Bool.{true}
 use Prim.Native.Nat.{ℕ, _≤_, _-_}
 use native.Mathlib.Omega.{arith}
-use borrow.Author.Tests.{not-true, not-false}
 use borrow.Author.Needs.{needs}
 use Rattle.automaton.specs.Below.{allBelow}
 use Rattle.automaton.proofs.Loops.{all-more, all-fails, all-done}
 use Rattle.definitions.specs.Bytes.{within}
 use Rattle.definitions.specs.Policy.{fields}
 use Rattle.definitions.specs.Refusal.{countInRange}
+use Rattle.definitions.proofs.Tests.{failed, held}
 use Rattle.policycheck.proofs.counts.counts_in_range.Statement.{statement}
 use Rattle.policycheck.proofs.counts.counts_in_range.Tie as tie
 
@@ -42,7 +42,7 @@ returns c =
     let start = c .before .before .before .before .before .before .before in
     let loop = c .before .before .before .before .loop in
     all-fails (countInRange (start .args .policy .now)) (fields (start .args .policy .now)) (loop .f) (omega arith)
-    (sym (judged (c .before)) ∙ not-true (c .before .in-range .result) (c .if1 .taken))
+    (failed _ _ (judged (c .before)) (c .if1 .taken))
 
 add-f : tie.Need-add-f Inv-loop μ-loop
 add-f c = search needs
@@ -56,7 +56,7 @@ loop-again c =
     let loop = c .before .before .before .before .loop in (
       omega arith,
       all-more (countInRange (start .args .policy .now)) (loop .f) (loop .inv .1)
-          (sym (judged (c .before)) ∙ not-false (c .before .in-range .result) (c .if1 .left)),
+          (held _ _ (judged (c .before)) (c .if1 .left)),
     )
 
 returns-2 : tie.Need-returns-2 Inv-loop μ-loop

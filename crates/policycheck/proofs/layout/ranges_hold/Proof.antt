@@ -1,12 +1,13 @@
 -- `ranges_hold` meets its contract.
-use mathlib.Core.Path.{_≡_, sym, ap, _∙_}
+use mathlib.Core.Path.{_≡_, ap, _∙_}
 use mathlib.Core.Bool.{true, false}
 use Prim.Native.Nat.{ℕ}
 use native.Mathlib.Omega.{arith}
-use borrow.Author.Tests.{le-leb, lt-leb, not-true, not-false}
+use borrow.Author.Tests.{le-leb, lt-leb}
 use borrow.Author.Needs.{needs}
 use Rattle.definitions.specs.Bytes.{within}
 use Rattle.definitions.specs.Policy.{events, fields, variables}
+use Rattle.definitions.proofs.Tests.{failed, held}
 use Rattle.policycheck.proofs.layout.ranges_hold.Statement.{statement}
 use Rattle.policycheck.proofs.layout.ranges_hold.Tie as tie
 
@@ -32,7 +33,7 @@ in-range-requires c κs = search needs
 returns-2 : tie.Need-returns-2
 returns-2 c =
     let start = c .before .before .before .before .before .before in
-    let e : within 1 (fields (start .args .policy .now)) 4 ≡ false = sym (fields-judged (c .before)) ∙ not-true (c .before .in-range .result) (c .if2 .taken) in
+    let e : within 1 (fields (start .args .policy .now)) 4 ≡ false = failed _ _ (fields-judged (c .before)) (c .if2 .taken) in
     rw (le-leb (events (start .args .policy .now)) 8 (omega arith), e)
 
 variables-requires : tie.Need-variables-requires
@@ -41,8 +42,7 @@ variables-requires c κs = search needs
 returns-3 : tie.Need-returns-3
 returns-3 c =
     let start = c .before .before .before .before .before .before .before .before in
-    let in-range = c .before .before .before .in-range in
-    let e : within 1 (fields (start .args .policy .now)) 4 ≡ true = sym (fields-judged (c .before .before .before)) ∙ not-false (in-range .result) (c .before .before .if2 .left) in
+    let e : within 1 (fields (start .args .policy .now)) 4 ≡ true = held _ _ (fields-judged (c .before .before .before)) (c .before .before .if2 .left) in
     rw (le-leb (events (start .args .policy .now)) 8 (omega arith), e, lt-leb (variables (start .args .policy .now)) 4 (omega arith))
 
 rules-requires : tie.Need-rules-requires
@@ -54,10 +54,9 @@ in-range-requires-2 c κs = search needs
 returns-4 : tie.Need-returns-4
 returns-4 c =
     let start = c .before .before .before .before .before .before .before .before .before .before in
-    let in-range = c .before .before .before .before .before .in-range in
     let if2 = c .before .before .before .before .if2 in
     let p = start .args .policy .now in
-    let e : within 1 (fields p) 4 ≡ true = sym (fields-judged (c .before .before .before .before .before)) ∙ not-false (in-range .result) (if2 .left) in
+    let e : within 1 (fields p) 4 ≡ true = held _ _ (fields-judged (c .before .before .before .before .before)) (if2 .left) in
     rw (le-leb (events p) 8 (omega arith), e, le-leb (variables p) 4 (omega arith)) (c .in-range2 .ensures ∙ ap (λ (x : ℕ). within 1 x 32) (c .before .rules .ensures .0))
 
 pub ranges-hold-spec : {M : Type 1} → statement M

@@ -1,19 +1,19 @@
 -- `rule_masks_hold` meets its contract. The loop's invariant: every mask before f passes.
-use mathlib.Core.Path.{_≡_, sym, _∙_}
+use mathlib.Core.Path.{_≡_}
 use mathlib.Core.Bool.{true}
 use Prim.Native.Nat.{_≤_, _-_}
 use native.Mathlib.Omega.{arith}
-use borrow.Author.Tests.{not-true, not-false}
 use borrow.Author.Needs.{needs}
 use Rattle.automaton.specs.Below.{allBelow}
 use Rattle.automaton.proofs.Loops.{all-more, all-fails, all-done}
 use Rattle.definitions.specs.Policy.{fields}
-use Rattle.policycheck.specs.Record.{partMaskHolds}
+use Rattle.definitions.proofs.Tests.{failed, held}
+use Rattle.definitions.specs.Refusal.{maskHolds}
 use Rattle.policycheck.proofs.masks.rule_masks_hold.Statement.{statement}
 use Rattle.policycheck.proofs.masks.rule_masks_hold.Tie as tie
 
 abbrev Inv-loop : tie.InvT-loop
-Inv-loop policy rule n f₀ f = (f ≤ n) × (allBelow f (partMaskHolds policy rule) ≡ true)
+Inv-loop policy rule n f₀ f = (f ≤ n) × (allBelow f (maskHolds policy rule) ≡ true)
 
 abbrev μ-loop : tie.MeasureT-loop
 μ-loop policy rule n f₀ f = n - f
@@ -32,8 +32,8 @@ returns c =
     let start = c .before .before .before .before .before .before .before in
     let loop = c .before .before .before .loop in
     let p = start .args .policy .now in
-    all-fails (partMaskHolds p (start .args .rule .now)) (fields p) (loop .f) (omega arith)
-    (sym (c .before .mask-holds .ensures) ∙ not-true (c .before .mask-holds .result) (c .if1 .taken))
+    all-fails (maskHolds p (start .args .rule .now)) (fields p) (loop .f) (omega arith)
+    (failed _ _ (c .before .mask-holds .ensures) (c .if1 .taken))
 
 add-f : tie.Need-add-f Inv-loop μ-loop
 add-f c = search needs
@@ -46,15 +46,15 @@ loop-again c =
     let start = c .before .before .before .before .before .before .before in
     let loop = c .before .before .before .loop in (
       omega arith,
-      all-more (partMaskHolds (start .args .policy .now) (start .args .rule .now)) (loop .f) (loop .inv .1)
-          (sym (c .before .mask-holds .ensures) ∙ not-false (c .before .mask-holds .result) (c .if1 .left)),
+      all-more (maskHolds (start .args .policy .now) (start .args .rule .now)) (loop .f) (loop .inv .1)
+          (held _ _ (c .before .mask-holds .ensures) (c .if1 .left)),
     )
 
 returns-2 : tie.Need-returns-2 Inv-loop μ-loop
 returns-2 c =
     let start = c .before .before .before .before .before in
     let p = start .args .policy .now in
-    all-done (partMaskHolds p (start .args .rule .now)) (fields p) (c .before .loop .f) (omega arith) (c .before .loop .inv .1)
+    all-done (maskHolds p (start .args .rule .now)) (fields p) (c .before .loop .f) (omega arith) (c .before .loop .inv .1)
 
 pub rule-masks-hold-spec : {M : Type 1} → statement M
 rule-masks-hold-spec =

@@ -1,14 +1,14 @@
 -- `events_hold` meets its contract. The loop's invariant: every event before e passes.
-use mathlib.Core.Path.{_≡_, sym, _∙_}
+use mathlib.Core.Path.{_≡_}
 use mathlib.Core.Bool.{true}
 use Prim.Native.Nat.{_≤_, _-_}
 use native.Mathlib.Omega.{arith}
-use borrow.Author.Tests.{not-true, not-false}
 use borrow.Author.Needs.{needs}
 use Rattle.automaton.specs.Below.{allBelow}
 use Rattle.automaton.proofs.Loops.{all-more, all-fails, all-done}
 use Rattle.definitions.specs.Policy.{events}
 use Rattle.definitions.specs.Refusal.{eventHolds}
+use Rattle.definitions.proofs.Tests.{failed, held}
 use Rattle.policycheck.proofs.values.events_hold.Statement.{statement}
 use Rattle.policycheck.proofs.values.events_hold.Tie as tie
 
@@ -32,7 +32,7 @@ returns c =
     let start = c .before .before .before .before .before .before .before in
     let loop = c .before .before .before .loop in
     let p = start .args .policy .now in
-    all-fails (eventHolds p) (events p) (loop .e) (omega arith) (sym (c .before .event-holds .ensures) ∙ not-true (c .before .event-holds .result) (c .if1 .taken))
+    all-fails (eventHolds p) (events p) (loop .e) (omega arith) (failed _ _ (c .before .event-holds .ensures) (c .if1 .taken))
 
 add-e : tie.Need-add-e Inv-loop μ-loop
 add-e c = search needs
@@ -46,7 +46,7 @@ loop-again c =
     let loop = c .before .before .before .loop in (
       omega arith,
       all-more (eventHolds (start .args .policy .now)) (loop .e) (loop .inv .1)
-          (sym (c .before .event-holds .ensures) ∙ not-false (c .before .event-holds .result) (c .if1 .left)),
+          (held _ _ (c .before .event-holds .ensures) (c .if1 .left)),
     )
 
 returns-2 : tie.Need-returns-2 Inv-loop μ-loop

@@ -1,20 +1,21 @@
 -- `rule_holds` meets its contract. The loop's invariant: every variable before j passes.
-use mathlib.Core.Path.{_≡_, sym, _∙_}
+use mathlib.Core.Path.{_≡_}
 use mathlib.Core.Bool.{true}
 use Prim.Native.Nat.{_≤_, _-_}
 use native.Mathlib.Omega.{arith}
 use lib.Dec.{leb}
-use borrow.Author.Tests.{le-leb, lt-leb, not-true, not-false}
+use borrow.Author.Tests.{le-leb, lt-leb}
 use borrow.Author.Needs.{needs}
 use Rattle.automaton.specs.Below.{allBelow}
 use Rattle.automaton.proofs.Loops.{all-more, all-fails, all-done}
 use Rattle.definitions.specs.Policy.{variables, decision}
-use Rattle.policycheck.specs.Record.{partTestHolds}
+use Rattle.definitions.proofs.Tests.{failed, held}
+use Rattle.definitions.specs.Refusal.{testHolds}
 use Rattle.policycheck.proofs.values.rule_holds.Statement.{statement}
 use Rattle.policycheck.proofs.values.rule_holds.Tie as tie
 
 abbrev Inv-loop : tie.InvT-loop
-Inv-loop policy rule n j₀ j = (j ≤ n) × (allBelow j (partTestHolds policy rule) ≡ true)
+Inv-loop policy rule n j₀ j = (j ≤ n) × (allBelow j (testHolds policy rule) ≡ true)
 
 abbrev μ-loop : tie.MeasureT-loop
 μ-loop policy rule n j₀ j = n - j
@@ -49,8 +50,8 @@ returns-2 c =
     let loop = c .before .before .before .loop in
     let p = start .args .policy .now in
     rw (decided (c .before .before .before .before .before))
-    (all-fails (partTestHolds p (start .args .rule .now)) (variables p) (loop .j) (omega arith)
-    (sym (c .before .test-holds .ensures) ∙ not-true (c .before .test-holds .result) (c .if2 .taken)))
+    (all-fails (testHolds p (start .args .rule .now)) (variables p) (loop .j) (omega arith)
+    (failed _ _ (c .before .test-holds .ensures) (c .if2 .taken)))
 
 add-j : tie.Need-add-j Inv-loop μ-loop
 add-j c = search needs
@@ -63,15 +64,15 @@ loop-again c =
     let start = c .before .before .before .before .before .before .before .before .before in
     let loop = c .before .before .before .loop in (
       omega arith,
-      all-more (partTestHolds (start .args .policy .now) (start .args .rule .now)) (loop .j) (loop .inv .1)
-          (sym (c .before .test-holds .ensures) ∙ not-false (c .before .test-holds .result) (c .if2 .left)),
+      all-more (testHolds (start .args .policy .now) (start .args .rule .now)) (loop .j) (loop .inv .1)
+          (held _ _ (c .before .test-holds .ensures) (c .if2 .left)),
     )
 
 returns-3 : tie.Need-returns-3 Inv-loop μ-loop
 returns-3 c =
     let start = c .before .before .before .before .before .before .before in
     let p = start .args .policy .now in
-    rw (decided (c .before .before .before)) (all-done (partTestHolds p (start .args .rule .now)) (variables p) (c .before .loop .j) (omega arith) (c .before .loop .inv .1))
+    rw (decided (c .before .before .before)) (all-done (testHolds p (start .args .rule .now)) (variables p) (c .before .loop .j) (omega arith) (c .before .loop .inv .1))
 
 pub rule-holds-spec : {M : Type 1} → statement M
 rule-holds-spec =

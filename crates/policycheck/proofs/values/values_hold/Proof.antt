@@ -1,10 +1,9 @@
 -- `values_hold` meets its contract.
-use mathlib.Core.Path.{sym, _∙_}
 use Prim.Native.Nat.{_≤_, _*_}
 use native.Mathlib.Omega.{arith}
 use lib.ListN.{length}
-use borrow.Author.Tests.{not-true, not-false}
 use borrow.Author.Needs.{needs}
+use Rattle.definitions.proofs.Tests.{failed, held}
 use Rattle.policy.proofs.Parts.{changes-within, lent-changes}
 use Rattle.policycheck.proofs.values.values_hold.Statement.{statement}
 use Rattle.policycheck.proofs.values.values_hold.Tie as tie
@@ -20,7 +19,7 @@ rules-hold-requires : tie.Need-rules-hold-requires
 rules-hold-requires c κs = search needs
 
 returns : tie.Need-returns
-returns c = rw (sym (c .before .rules-hold .ensures) ∙ not-true (c .before .rules-hold .result) (c .if1 .taken))
+returns c = rw (failed _ _ (c .before .rules-hold .ensures) (c .if1 .taken))
 
 rules-requires : tie.Need-rules-requires
 rules-requires c κs = search needs
@@ -50,7 +49,7 @@ returns-2 : tie.Need-returns-2
 returns-2 c =
     let rules-hold = c .before .before .before .before .before .rules-hold in
     let if1 = c .before .before .before .before .if1 in
-    rw (sym (rules-hold .ensures) ∙ not-false (rules-hold .result) (if1 .left)) (c .events-hold .ensures)
+    rw (held _ _ (rules-hold .ensures) (if1 .left)) (c .events-hold .ensures)
 
 pub values-hold-spec : {M : Type 1} → statement M
 values-hold-spec =
