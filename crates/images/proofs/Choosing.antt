@@ -14,15 +14,14 @@ use lib.Dec.{eqb}
 use lib.ListN.{length, getD, set}
 use borrow.Author.Tests.{lt-ltb, le-ltb, eq-eqb, ne-eqb}
 use Rattle.automaton.specs.Below.{foldBelow}
-use Rattle.automaton.proofs.Counting.{and-true}
+use Rattle.automaton.proofs.Counting.{and-true, greatest-below}
 use Rattle.automaton.proofs.Order.{tri}
 use Rattle.definitions.specs.Bytes.{bit}
 use Rattle.definitions.specs.Situation.{emptySet, insert, requestOf, decisionOf}
 use Rattle.rules.specs.Tables.{Filled}
-use Rattle.images.specs.Choice.{joined, withTarget, withMost, levelIn, greatest, withChosen, chosenBy, leading, Listed, Chosen, chosenFor}
+use Rattle.images.specs.Choice.{withDecided, withTarget, withMost, levelIn, greatest, withChosen, chosenBy, leading, Listed, Chosen, chosenFor}
 use Rattle.images.specs.declared.deciding.Choice.{Choice}
 use Rattle.rules.proofs.RuleSets.{bit-and, none-from, Member}
-use Rattle.images.proofs.Levels.{most-at}
 use Rattle.rules.proofs.Tables.{filled-more}
 
 -- turns that change nothing can be left out
@@ -43,7 +42,7 @@ module _ (fits : ℕ) (levels decisions targets : List ℕ) where
       go false = refl
 
   taken : (best d k x : ℕ) → bit fits k ≡ true → getD levels k 0 ≡ best
-      → withChosen fits levels decisions targets best d k x ≡ joined (getD decisions k 0) d (getD targets k 0) x
+      → withChosen fits levels decisions targets best d k x ≡ withDecided (getD decisions k 0) d (getD targets k 0) x
   taken best d k x e q = rw (e, eq-eqb (getD levels k 0) best q) (go (eqb (getD decisions k 0) d))
     where
       go : (b : Bool) → cond (b && true) (insert (getD targets k 0) x) x ≡ cond b (insert (getD targets k 0) x) x
@@ -75,8 +74,8 @@ module _ (fits : ℕ) (levels decisions targets : List ℕ) where
         lower i m false q = refl
         lower i m true q =
             let is : levelIn fits levels i ≡ getD levels i 0 = rw q in
-            let at : getD levels i 0 ≤ greatest fits levels k = rw is at (most-at (levelIn fits levels) k i m) in
-            ne-eqb (getD levels i 0) best (λ z. let no : ⊥ = omega arith in no)
+            let at : getD levels i 0 ≤ greatest fits levels k = rw is at (greatest-below (levelIn fits levels) k i m) in
+            ne-eqb (getD levels i 0) best (λ z. omega arith)
 
     pub leading-more : (d : ℕ) → leading fits levels decisions targets (suc k) d
         ≡ withTarget (greatest fits levels k) (getD levels k 0) (getD decisions k 0) d (getD targets k 0) (leading fits levels decisions targets k d)
@@ -96,7 +95,7 @@ module _ (fits : ℕ) (levels decisions targets : List ℕ) where
             ≡ withTarget before level (getD decisions k 0) d (getD targets k 0) (leading fits levels decisions targets k d)
         go (inl l) =
             at before (max-eq-left {n = before} {m = level} (omega arith))
-            ∙ left-out before d k (leading fits levels decisions targets k d) (rw (e, ne-eqb level before (λ z. let no : ⊥ = omega arith in no)))
+            ∙ left-out before d k (leading fits levels decisions targets k d) (rw (e, ne-eqb level before (λ z. omega arith)))
             ∙ rw (lt-ltb level before l)
         go (inr (inl q)) =
             at before (max-eq-left {n = before} {m = level} (omega arith))

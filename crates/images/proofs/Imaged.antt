@@ -18,16 +18,16 @@ use Rattle.definitions.specs.Bytes.{bit}
 use Rattle.definitions.specs.Policy.{events, variables, rules, requests, width, rule, decision, change, value}
 use Rattle.definitions.specs.Valuation.{valuations, variableIn, byRule}
 use Rattle.definitions.specs.Situation.{fits, applies, emptySet, insert, withRule, requestImage, requestOf, decisionOf}
+use Rattle.definitions.proofs.Valuations.{carried-out-below}
 use Rattle.policy.specs.Sized.{Passed}
 use Rattle.rules.specs.Tables.{entryOf, Tabled, Filled}
 use Rattle.rules.specs.Rules.{ruleLets, lettingRequest, ruleEnabled, enabling}
 use Rattle.images.specs.Choice.{Listed, levelIn, withMost, greatest, withChosen, leading, chosenFor}
-use Rattle.images.specs.Images.{ruleLevel, ruleDecision, ruleTarget, eventFrom, imageFrom, imageAt, ImagesFilled}
+use Rattle.images.specs.Images.{ruleLevel, ruleDecision, ruleTarget, eventFrom, imageFrom, imageEntry, ImagesFilled}
 use Rattle.rules.proofs.RuleSets.{bit-and, bit-passing, passing-below}
 use Rattle.images.proofs.Levels.{by-level, seen, top}
 use Rattle.images.proofs.Choosing.{leading-idle}
 use Rattle.rules.proofs.Values.{enabling-same}
-use Rattle.rules.proofs.Valuations.{variable-most, carried-below}
 use Rattle.images.proofs.Targets.{rule-target-same, event-from-same}
 use Rattle.rules.proofs.Tables.{filled-as, filled-join, filled-part}
 
@@ -66,7 +66,7 @@ module _ (p : List ℕ) (v : ℕ) (values lets : List ℕ) (able : ℕ) (levels 
         omega (arith, h .leading .room),
         rw (target-is k l)
             (let few = passed .fewValuations in
-            let b = carried-below p (change p (rule p k)) (variableIn p v) (λ j m. variable-most p v j) in omega arith),
+            let b = carried-out-below p (change p (rule p k)) v in omega arith),
       )
 
   module _ (r : ℕ) (l : r < requests p) where
@@ -122,19 +122,19 @@ module _ (p : List ℕ) (v : ℕ) (values lets : List ℕ) (able : ℕ) (levels 
 
 -- ---- the rows of all valuations
 module _ (p : List ℕ) where
-  pub row-entry : (v c : ℕ) → c < width p → imageFrom p v c ≡ imageAt p (v * width p + c)
+  pub row-entry : (v c : ℕ) → c < width p → imageFrom p v c ≡ imageEntry p (v * width p + c)
   row-entry v c l = rw (digits-mod v {m = width p} l, digits-div v {m = width p} l)
 
   -- the row of valuation v, which was lent, has come back
-  pub rows-more : (w v : ℕ) (before now part : List ℕ) → w ≡ width p → v * w + w ≤ length now → Filled 0 0 (v * w) (imageAt p) before now
+  pub rows-more : (w v : ℕ) (before now part : List ℕ) → w ≡ width p → v * w + w ≤ length now → Filled 0 0 (v * w) (imageEntry p) before now
       → length part ≡ length (take (length now - v * w) (drop (v * w) now)) → Filled 0 0 (width p) (imageFrom p v) (take (length now - v * w) (drop (v * w) now)) part
-      → Filled 0 0 ((v + 1) * w) (imageAt p) before (putMid (v * w) (length now - v * w) now part)
+      → Filled 0 0 ((v + 1) * w) (imageEntry p) before (putMid (v * w) (length now - v * w) now part)
   rows-more w v before now part ew room done e row =
       let next : v * w + width p ≡ (v + 1) * w = ap (λ (x : ℕ). v * w + x) (sym ew) ∙ sym (ap (λ (x : ℕ). x * w) (add-one v) ∙ suc-mul v w) in
-      let here = filled-part 0 (v * w) (width p) (imageFrom p v) (imageAt p) now part (omega arith) e row (λ j l. row-entry v j l ∙ ap (λ (x : ℕ). imageAt p (v * x + j)) (sym ew)) in
-      rw next at (filled-join 0 0 (v * w) (v * w + width p) (imageAt p) before now (putMid (v * w) (length now - v * w) now part) (omega arith) (omega arith) done here)
+      let here = filled-part 0 (v * w) (width p) (imageFrom p v) (imageEntry p) now part (omega arith) e row (λ j l. row-entry v j l ∙ ap (λ (x : ℕ). imageEntry p (v * x + j)) (sym ew)) in
+      rw next at (filled-join 0 0 (v * w) (v * w + width p) (imageEntry p) before now (putMid (v * w) (length now - v * w) now part) (omega arith) (omega arith) done here)
 
-  pub images-filled : (before after : List ℕ) → Filled 0 0 (valuations p * width p) (imageAt p) before after → ImagesFilled p before after
+  pub images-filled : (before after : List ℕ) → Filled 0 0 (valuations p * width p) (imageEntry p) before after → ImagesFilled p before after
   images-filled before after done =
       record {
         same-length = done .same-length;

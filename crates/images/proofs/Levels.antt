@@ -1,29 +1,13 @@
 -- A rule applies exactly if it fits and its level is the greatest among the rules that fit.
 use mathlib.Core.Path.{_≡_, refl, sym, _∙_}
 use mathlib.Core.Bool.{Bool, cond, true, false, true≢false, not, _&&_}
-use mathlib.Core.Logic.{_⊎_, inl, inr}
-use Prim.Native.Nat.{ℕ, zero, suc, _<_, _≤_}
-use native.Mathlib.Nat.{le-trans, le-max-left, le-max-right, max-le, not-suc-le-zero}
+use Prim.Native.Nat.{ℕ, _<_, _≤_}
 use native.Mathlib.Omega.{arith}
 use lib.Dec.{ltb, eqb}
 use borrow.Author.Tests.{ltb-true, ltb-false, eq-eqb, ne-eqb}
 use Rattle.automaton.specs.Below.{anyBelow, foldBelow}
-use Rattle.automaton.proofs.Counting.{below-suc, and-true, any-below, any-below-at}
+use Rattle.automaton.proofs.Counting.{and-true, any-below, any-below-at, greatest-below, greatest-below-least}
 use Rattle.images.specs.Choice.{withMost}
-
--- ---- the greatest of the first n values of f
-module _ (f : ℕ → ℕ) where
-  pub most-at : (n i : ℕ) → i < n → f i ≤ foldBelow n 0 (withMost f)
-  most-at zero i l = absurd (not-suc-le-zero l)
-  most-at (suc n) i l = go (below-suc i n l) (most-at n i)
-    where
-      go : (i < n) ⊎ (i ≡ n) → (i < n → f i ≤ foldBelow n 0 (withMost f)) → f i ≤ foldBelow (suc n) 0 (withMost f)
-      go (inl h) ih = le-trans (ih h) (le-max-left (foldBelow n 0 (withMost f)) (f n))
-      go (inr e) ih = rw e (le-max-right (foldBelow n 0 (withMost f)) (f n))
-
-  most-least : (b n : ℕ) → ((i : ℕ) → i < n → f i ≤ b) → foldBelow n 0 (withMost f) ≤ b
-  most-least b zero each = omega arith
-  most-least b (suc n) each = max-le (most-least b n (λ i l. each i (omega arith))) (each n (omega arith))
 
 -- ---- n rules, of which some fit, each with its level
 module _ (n : ℕ) (fitting : ℕ → Bool) (level : ℕ → ℕ) where
@@ -37,7 +21,7 @@ module _ (n : ℕ) (fitting : ℕ → Bool) (level : ℕ → ℕ) where
   top = foldBelow n 0 (withMost seen)
 
   reaches : (i : ℕ) → i < n → fitting i ≡ true → level i ≤ top
-  reaches i l e = let seen-is : seen i ≡ level i = rw e in rw seen-is at (most-at seen n i l)
+  reaches i l e = let seen-is : seen i ≡ level i = rw e in rw seen-is at (greatest-below seen n i l)
 
   -- the level of a rule that is not above rule k
   not-above : (k i : ℕ) → above k i ≡ false → seen i ≤ level k
@@ -57,10 +41,10 @@ module _ (n : ℕ) (fitting : ℕ → Bool) (level : ℕ → ℕ) where
           let h = and-true (ltb (level k) (level (w .0))) (fitting (w .0)) (w .2) in
           let less = ltb-true (level k) (level (w .0)) (h .0) in
           let reach = reaches (w .0) (w .1) (h .1) in
-          sym (ne-eqb (level k) top (λ z. let no : ⊥ = omega arith in no))
+          sym (ne-eqb (level k) top (λ z. omega arith))
       outdone q false e =
           let reach = reaches k l q in
-          let least : top ≤ level k = most-least seen (level k) n (λ i m. not-above k i (none i m)) in
+          let least : top ≤ level k = greatest-below-least seen n (level k) (λ i m. not-above k i (none i m)) in
           sym (eq-eqb (level k) top (omega arith))
         where
           none : (i : ℕ) → i < n → above k i ≡ false

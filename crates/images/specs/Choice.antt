@@ -19,8 +19,8 @@ Listed fits levels decisions targets =
 -- ---- one rule more
 
 -- the set, and the target if the decision is d
-abbrev pub joined : ℕ → ℕ → ℕ → ℕ → ℕ
-joined decision d target set = cond (eqb decision d) (insert target set) set
+abbrev pub withDecided : ℕ → ℕ → ℕ → ℕ → ℕ
+withDecided decision d target set = cond (eqb decision d) (insert target set) set
 
 -- what a rule of this level leaves of where the rules of level `best` lead: nothing if its level is greater
 abbrev pub kept : ℕ → ℕ → ℕ → ℕ
@@ -28,7 +28,7 @@ kept best level set = cond (ltb best level) emptySet set
 
 -- and with where it leads itself, unless its level is lower
 abbrev pub withTarget : ℕ → ℕ → ℕ → ℕ → ℕ → ℕ → ℕ
-withTarget best level decision d target set = cond (ltb level best) set (joined decision d target (kept best level set))
+withTarget best level decision d target set = cond (ltb level best) set (withDecided decision d target (kept best level set))
 
 -- ---- the first n rules
 

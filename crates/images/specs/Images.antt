@@ -43,8 +43,8 @@ pub record Prepared (p table : List ℕ) (shape : Shape) (bounds lets levels dec
   pub deciding : Tabled 0 (rules p) (ruleDecision p) decisions
 
 -- entry v × w + c of the table of images
-abbrev pub imageAt : List ℕ → ℕ → ℕ
-imageAt p i = image p (i % width p) (i / width p)
+abbrev pub imageEntry : List ℕ → ℕ → ℕ
+imageEntry p i = image p (i % width p) (i / width p)
 
 -- every image has been filled in, and what follows them stays
 pub record ImagesFilled (p before after : List ℕ) : Type 0 where

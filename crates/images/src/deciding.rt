@@ -3,7 +3,7 @@ ghost use mathlib.Core.Path.{_≡_};
 ghost use Prim.Native.Nat.{_+_, _*_, _<_, _≤_, max};
 ghost use lib.ListN.{length};
 ghost use Rattle.rules.specs.Tables.{Filled};
-ghost use Rattle.images.specs.Choice.{joined, kept, withTarget, Listed, Chosen, chosenFor};
+ghost use Rattle.images.specs.Choice.{withDecided, kept, withTarget, Listed, Chosen, chosenFor};
 use rules::sets;
 use situation::Situation;
 
@@ -15,9 +15,9 @@ pub struct Choice {
 }
 
 // The set, and the target if the decision is d.
-fn joined(set: Situation, decision: usize, d: usize, target: usize) -> Situation
+fn with_decided(set: Situation, decision: usize, d: usize, target: usize) -> Situation
     requires { ⌜ target < 64 ⌝ }
-    ensures { λ r. ⌜ r .set ≡ joined decision d target (set .set) ⌝ }
+    ensures { λ r. ⌜ r .set ≡ withDecided decision d target (set .set) ⌝ }
 {
     if decision == d { set.with(target) } else { set }
 }
@@ -51,8 +51,8 @@ fn with_rule(choice: Choice, level: usize, decision: usize, target: usize) -> Ch
     let before = kept(choice, level);
     Choice {
         best: level,
-        accepted: joined(before.accepted, decision, 1, target),
-        rejected: joined(before.rejected, decision, 0, target),
+        accepted: with_decided(before.accepted, decision, 1, target),
+        rejected: with_decided(before.rejected, decision, 0, target),
     }
 }
 

@@ -11,7 +11,7 @@ ghost use Rattle.policy.specs.Sized.{Passed, TableOf, ChangesOf};
 ghost use Rattle.policy.specs.Shape.{shapeOf};
 ghost use Rattle.rules.specs.Tables.{Filled, Tabled, entryOf};
 ghost use Rattle.rules.specs.Valuations.{Valued};
-ghost use Rattle.images.specs.Images.{ruleLevel, ruleDecision, ruleTarget, eventFrom, imageFrom, Prepared, imageAt, ImagesFilled};
+ghost use Rattle.images.specs.Images.{ruleLevel, ruleDecision, ruleTarget, eventFrom, imageFrom, Prepared, imageEntry, ImagesFilled};
 use policy::header;
 use policy::record;
 use policy::shape::Shape;
@@ -121,7 +121,7 @@ fn fill_rows(
     images: &mut [u64],
 )
     requires { ⌜ Prepared (now policy) (now table) shape (now bounds) (now lets) (now levels) (now decisions) × (valuations (now policy) * width (now policy) ≤ length (now images)) ⌝ }
-    ensures { λ _. ⌜ Filled 0 0 (valuations (now (policy .entry)) * width (now (policy .entry))) (imageAt (now (policy .entry))) (now (images .entry)) (now (images .exit)) ⌝ }
+    ensures { λ _. ⌜ Filled 0 0 (valuations (now (policy .entry)) * width (now (policy .entry))) (imageEntry (now (policy .entry))) (now (images .entry)) (now (images .exit)) ⌝ }
 {
     let w = shape.width;
     let n = shape.valuations;
@@ -143,7 +143,7 @@ fn fill_rows(
     }
 }
 
-// The same, of a file that no row turns down. The tables from which it is filled are made once.
+// The same, of a file that no row up to 10 turns down. The tables from which the rows are filled are made once.
 pub fn fill_images(policy: &[u8], shape: Shape, images: &mut [u64])
     requires { ⌜ (fileRefusal (now policy) ≡ 0) × (shape ≡ shapeOf (now policy)) × (valuations (now policy) * width (now policy) ≤ length (now images)) ⌝ }
     ensures { λ _. ⌜ ImagesFilled (now (policy .entry)) (now (images .entry)) (now (images .exit)) ⌝ }

@@ -9,12 +9,12 @@ use Rattle.definitions.specs.Policy.{events, fields, variables, rules, ruleSize
 use Rattle.policy.specs.Sized.{Sized, TableOf, RuleOf, ChangesOf}
 
 module _ (p t : List ℕ) (h : TableOf p t) where
-  pub table-length : length t ≡ rules p * ruleSize p + events p * variables p
-  table-length = rw (h .table, length-drop) (let e = h .sized .exact in omega arith)
+  pub rule-table-length : length t ≡ rules p * ruleSize p + events p * variables p
+  rule-table-length = rw (h .table, length-drop) (let e = h .sized .exact in omega arith)
 
   -- the record of rule k lies in the table
   pub rule-within : (k : ℕ) → k < rules p → k * ruleSize p + ruleSize p ≤ length t
-  rule-within k l = rw table-length (let m = row-within k (rules p) (ruleSize p) l in omega arith)
+  rule-within k l = rw rule-table-length (let m = row-within k (rules p) (ruleSize p) l in omega arith)
 
   -- the part that begins with it
   pub rule-part : (k : ℕ) → k < rules p → RuleOf p (drop (k * ruleSize p) t)
@@ -53,7 +53,7 @@ lent-table p f h e = record { sized = h; table = rw (part-is-drop, e) }
 -- the records of the events as the code lends them, where n is the number of rules
 module _ (p t : List ℕ) (n size : ℕ) (h : TableOf p t) (en : n ≡ rules p) (es : size ≡ ruleSize p) where
   pub changes-within : n * size ≤ length t
-  changes-within = rw (en, es, table-length p t h) (omega arith)
+  changes-within = rw (en, es, rule-table-length p t h) (omega arith)
 
   pub lent-changes : ChangesOf p (take (length t - n * size) (drop (n * size) t))
   lent-changes = rw (part-is-drop, en, es) (changes-part p t h)

@@ -1,3 +1,2 @@
 pub mod Sized
-pub mod Record
 pub mod Shape

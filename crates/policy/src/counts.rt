@@ -1,10 +1,9 @@
-// The number of requests.
+// The number of requests: the product of the value counts.
 ghost use mathlib.Core.Path.{_≡_};
 ghost use Rattle.definitions.specs.Policy.{requests};
 ghost use Rattle.policy.specs.Sized.{Sized};
 use super::header;
 
-// The number of requests: the product of the value counts.
 pub fn requests(policy: &[u8]) -> usize
     requires { ⌜ Sized (now policy) ⌝ }
     ensures { λ r. ⌜ r ≡ requests (now (policy .entry)) ⌝ }

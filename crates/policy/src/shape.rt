@@ -1,4 +1,4 @@
-// The numbers of a file that has passed.
+// The numbers of a file that no row up to 10 turns down, read once.
 ghost use mathlib.Core.Path.{_≡_};
 ghost use Rattle.definitions.specs.Refusal.{fileRefusal};
 ghost use Rattle.policy.specs.Shape.{shapeOf};
@@ -17,7 +17,6 @@ pub struct Shape {
 }
 
 impl Shape {
-    // The numbers of a file that no row turns down.
     pub fn of(policy: &[u8]) -> Shape
         requires { ⌜ fileRefusal (now policy) ≡ 0 ⌝ }
         ensures { λ r. ⌜ r ≡ shapeOf (now (policy .entry)) ⌝ }

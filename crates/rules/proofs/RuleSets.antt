@@ -12,23 +12,17 @@ use lib.Count.{trailingZeros, under}
 use lib.Dec.{eqb}
 use lib.Pow.{shr-shr, shr-le}
 use borrow.Author.Tests.{eq-eqb, ne-eqb}
-use Rattle.automaton.specs.Machine.{isState}
+use Rattle.automaton.proofs.Machines.{is-state}
 use Rattle.automaton.proofs.Counting.{Lowest, below-suc}
 use Rattle.automaton.proofs.Congruence.{fold-below-same}
 use Rattle.definitions.specs.Bytes.{bit}
 use Rattle.definitions.specs.Situation.{emptySet, insert}
-use Rattle.definitions.proofs.Sets.{bit-empty, bit-insert, state-has}
+use Rattle.definitions.proofs.Sets.{two-digit-cases, bit-empty, bit-insert, state-has}
 use Rattle.rules.specs.Rules.{withPassing, passing}
 
 -- ---- what two sets share
 both-of-two : (x y : ℕ) → x < 2 → y < 2 → eqb (min x y) 1 ≡ (eqb x 1 && eqb y 1)
-both-of-two zero zero lx ly = refl
-both-of-two zero (suc zero) lx ly = refl
-both-of-two (suc zero) zero lx ly = refl
-both-of-two (suc zero) (suc zero) lx ly = refl
-both-of-two zero (suc (suc y)) lx ly = absurd (omega arith)
-both-of-two (suc zero) (suc (suc y)) lx ly = absurd (omega arith)
-both-of-two (suc (suc x)) y lx ly = absurd (omega arith)
+both-of-two = two-digit-cases (λ x y. eqb (min x y) 1 ≡ (eqb x 1 && eqb y 1)) refl refl refl refl
 
 pub bit-and : (a b u : ℕ) → bit (bitAnd a b) u ≡ (bit a u && bit b u)
 bit-and a b u =
@@ -51,7 +45,7 @@ trailing (suc k) n = go (n % 2) refl (trailing k (n / 2))
     go zero e h = record { within = omega (arith, h .within); passes = λ l. bit-later n (trailingZeros k (n / 2)) ∙ h .passes (omega arith); first = low }
       where
         low : (j : ℕ) → j < suc (trailingZeros k (n / 2)) → bit n j ≡ false
-        low zero l = bit-first n ∙ ne-eqb (n % 2) 1 (λ q. let z : ⊥ = omega arith in z)
+        low zero l = bit-first n ∙ ne-eqb (n % 2) 1 (λ q. omega arith)
         low (suc j) l = bit-later n j ∙ h .first j (omega arith)
     go (suc r) e h = record { within = omega arith; passes = λ l. bit-first n ∙ eq-eqb (n % 2) 1 (omega arith); first = λ j l. absurd (omega arith) }
 
@@ -62,7 +56,7 @@ module _ (f : ℕ → Bool) where
   passing-beyond (suc n) u l = go (f n) (passing-beyond n u (omega arith))
     where
       go : (b : Bool) → bit (passing n f) u ≡ false → bit (cond b (insert n (passing n f)) (passing n f)) u ≡ false
-      go true h = bit-insert n (passing n f) u ∙ rw (h, ne-eqb u n (λ e. let z : ⊥ = omega arith in z))
+      go true h = bit-insert n (passing n f) u ∙ rw (h, ne-eqb u n (λ e. omega arith))
       go false h = h
 
   pub bit-passing : (n u : ℕ) → u < n → bit (passing n f) u ≡ f u
@@ -70,7 +64,7 @@ module _ (f : ℕ → Bool) where
   bit-passing (suc n) u l = go (f n) refl (below-suc u n l) (bit-passing n u)
     where
       go : (b : Bool) → f n ≡ b → (u < n) ⊎ (u ≡ n) → (u < n → bit (passing n f) u ≡ f u) → bit (cond b (insert n (passing n f)) (passing n f)) u ≡ f u
-      go true q (inl h) ih = bit-insert n (passing n f) u ∙ rw (ne-eqb u n (λ e. let z : ⊥ = omega arith in z), or-false) (ih h)
+      go true q (inl h) ih = bit-insert n (passing n f) u ∙ rw (ne-eqb u n (λ e. omega arith), or-false) (ih h)
       go true q (inr e) ih = bit-insert n (passing n f) u ∙ rw (passing-beyond n u (omega arith), eq-eqb u n e) (sym (ap f e ∙ q))
       go false q (inl h) ih = ih h
       go false q (inr e) ih = passing-beyond n u (omega arith) ∙ sym (ap f e ∙ q)
@@ -116,12 +110,8 @@ pub record Member (set k m : ℕ) : Type 0 where
 pub lowest-member : (set k left z : ℕ) → set < 2 ^ 64 → left ≡ set / 2 ^ k → (left ≡ 0 → ⊥) → z ≡ trailingZeros 64 left → Member set k (k + z)
 lowest-member set k left z l e some q = record { below = member-below set 64 (k + z) l here; here = here; none = none }
   where
-    state : (x : ℕ) → (x ≡ 0 → ⊥) → isState x ≡ true
-    state zero h = absurd (h refl)
-    state (suc x) h = refl
-
     any : (u : ℕ) × (u < 64) × (bit left u ≡ true)
-    any = state-has 64 left (lt-of-le-of-lt (rw e (shr-le set k)) l) (state left some)
+    any = state-has 64 left (lt-of-le-of-lt (rw e (shr-le set k)) l) (is-state left (omega arith))
 
     low : Lowest 64 (bit left) z
     low = rw q (trailing 64 left)

@@ -16,7 +16,7 @@ module _ {A : Type 0} (d : A) where
   filled-none low f l =
       record {
         same-length = refl;
-        inside = λ i a b. let z : ⊥ = omega arith in absurd z;
+        inside = λ i a b. absurd (omega arith);
         below = λ i a. refl;
         beyond = λ i a. refl;
       }
@@ -28,12 +28,12 @@ module _ {A : Type 0} (d : A) where
       record {
         same-length = length-set after high x ∙ done .same-length;
         inside = λ i a b. at i a b (decLt i high);
-        below = λ i a. getD-set-other after high i x d (λ q. let z : ⊥ = omega arith in z) ∙ done .below i a;
-        beyond = λ i a. getD-set-other after high i x d (λ q. let z : ⊥ = omega arith in z) ∙ done .beyond i (omega arith);
+        below = λ i a. getD-set-other after high i x d (λ q. omega arith) ∙ done .below i a;
+        beyond = λ i a. getD-set-other after high i x d (λ q. omega arith) ∙ done .beyond i (omega arith);
       }
     where
       at : (i : ℕ) → low ≤ i → i < high + 1 → Dec (i < high) → getD (set after high x) i d ≡ f i
-      at i a b (yes c) = getD-set-other after high i x d (λ q. let z : ⊥ = omega arith in z) ∙ done .inside i a c
+      at i a b (yes c) = getD-set-other after high i x d (λ q. omega arith) ∙ done .inside i a c
       at i a b (no c) =
           let q : i ≡ high = omega arith in
           let room : high < length after = rw (done .same-length) h in

@@ -1,20 +1,21 @@
 -- Valuations as numbers in mixed radix: taking off one variable after another, and putting changed ones together again.
 use mathlib.Core.Path.{_≡_, refl}
-use mathlib.Core.Bool.{Bool, cond, true, false}
+use mathlib.Core.Bool.{cond}
 use mathlib.Core.List.{List}
 use Prim.Native.Nat.{ℕ, zero, suc, _+_, _*_, _/_, _%_, _<_, _≤_}
-use native.Mathlib.Nat.{mod-lt, div-div-eq-div-mul, mul-le-mul-right, suc-mul, mul-comm}
+use native.Mathlib.Nat.{div-div-eq-div-mul, mul-le-mul-right}
 use native.Mathlib.Numerals.{add-one}
 use native.Mathlib.Omega.{arith}
 use lib.Dec.{ltb}
-use borrow.Author.Tests.{ltb-true}
 use Rattle.automaton.specs.Below.{foldBelow}
 use Rattle.automaton.proofs.Congruence.{fold-below-same}
 use Rattle.definitions.specs.Policy.{variables}
-use Rattle.definitions.specs.Valuation.{bound, valuesOf, worth, valuations, variableIn, changed}
+use Rattle.definitions.specs.Valuation.{bound, valuesOf, worth, variableIn, changed}
 use Rattle.definitions.specs.Situation.{isBelow}
 use Rattle.policy.specs.Sized.{Passed}
 use Rattle.definitions.proofs.Products.{product-grows}
+use Rattle.definitions.proofs.Radix.{low-below}
+use Rattle.definitions.proofs.Valuations.{changed-bound, variable-bound}
 use Rattle.rules.specs.Tables.{Tabled}
 use Rattle.rules.specs.Valuations.{Valued, withChangedBy, carriedBy}
 
@@ -24,21 +25,12 @@ limited x zero h = absurd (h refl)
 limited x (suc most) h = refl
 
 pub reset : (change most x : ℕ) → 1 < change → changed change most x ≡ 0
-reset zero most x h = let z : ⊥ = omega arith in absurd z
-reset (suc zero) most x h = let z : ⊥ = omega arith in absurd z
+reset zero most x h = absurd (omega arith)
+reset (suc zero) most x h = absurd (omega arith)
 reset (suc (suc n)) most x h = refl
 
 pub added : (change most x : ℕ) → (change ≡ 0 → ⊥) → change ≤ 1 → changed change most x ≡ cond (ltb x most) (suc x) x
 added change most x h l = let e : change ≡ 1 = omega arith in rw e
-
-pub changed-most : (change most x : ℕ) → x ≤ most → changed change most x ≤ most
-changed-most zero most x h = h
-changed-most (suc zero) most x h = go (ltb x most) refl
-  where
-    go : (b : Bool) → ltb x most ≡ b → cond b (suc x) x ≤ most
-    go true e = ltb-true x most e
-    go false e = h
-changed-most (suc (suc n)) most x h = omega arith
 
 module _ (p : List ℕ) where
   -- ---- the variables before j have been taken off
@@ -47,9 +39,6 @@ module _ (p : List ℕ) where
 
   pub variable-is : (v j rest values : ℕ) → rest ≡ v / worth p j → values ≡ valuesOf p j → rest % values ≡ variableIn p v j
   variable-is v j rest values er ev = rw (er, ev)
-
-  pub variable-most : (v j : ℕ) → variableIn p v j ≤ bound p j
-  variable-most v j = let h = mod-lt (v / worth p j) {m = valuesOf p j} (omega arith) in omega arith
 
   pub worth-grows : (i n : ℕ) → i ≤ n → worth p i ≤ worth p n
   worth-grows i n l = product-grows (valuesOf p) (λ k. omega arith) i n l
@@ -62,7 +51,7 @@ module _ (p : List ℕ) where
 
   -- a table of the variables of v
   pub valued : (v : ℕ) (values : List ℕ) → Tabled 0 (variables p) (variableIn p v) values → Valued p values
-  valued v values t = record { room = t .room; most = λ j l. rw (t .entry j l) (variable-most v j) }
+  valued v values t = record { room = t .room; most = λ j l. rw (t .entry j l) (variable-bound p v j) }
 
   -- ---- the changed variables before j have been put together
   module _ (changes x : ℕ → ℕ) where
@@ -77,17 +66,9 @@ module _ (p : List ℕ) where
     module _ (fits : (j : ℕ) → j < variables p → x j ≤ bound p j) where
       -- they are worth less than one of variable j
       carried-less : (j : ℕ) → j ≤ variables p → foldBelow j 0 (withChangedBy p changes x) < worth p j
-      carried-less zero m = omega arith
-      carried-less (suc j) m =
-          let w = worth p j in
-          let y = changed (changes j) (bound p j) (x j) in
-          let h = carried-less j (omega arith) in
-          let l : suc y * w ≤ valuesOf p j * w = mul-le-mul-right w (let k = changed-most (changes j) (bound p j) (x j) (fits j m) in omega arith) in
-          let e : suc y * w ≡ y * w + w = suc-mul y w in
-          let k : valuesOf p j * w ≡ w * valuesOf p j = mul-comm (valuesOf p j) w in omega arith
-
-      pub carried-below : carriedBy p changes x < valuations p
-      carried-below = carried-less (variables p) (omega arith)
+      carried-less j m =
+          low-below (valuesOf p) j (λ i. changed (changes i) (bound p i) (x i))
+          (λ i l. omega (arith, changed-bound (changes i) (bound p i) (x i) (fits i (omega arith))))
 
       pub carrying-fits : Passed p → (j w sum : ℕ) → j ≤ variables p → Carrying j w sum → (sum < 64) × (w ≤ 64)
       carrying-fits passed j w sum l h =

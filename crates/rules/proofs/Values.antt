@@ -1,22 +1,16 @@
 -- Sets of rules by tables of values: equal values give equal sets.
-use mathlib.Core.Path.{_≡_, refl, ap}
-use mathlib.Core.Bool.{Bool}
+use mathlib.Core.Path.{_≡_, ap}
 use mathlib.Core.List.{List}
-use Prim.Native.Nat.{ℕ, zero, suc, _<_}
+use Prim.Native.Nat.{ℕ, _<_}
 use native.Mathlib.Omega.{arith}
-use Rattle.automaton.specs.Below.{allBelow}
+use Rattle.automaton.proofs.Congruence.{all-below-same}
 use Rattle.definitions.specs.Bytes.{bit}
 use Rattle.definitions.specs.Policy.{fields, variables, rules, rule, mask, value}
 use Rattle.definitions.proofs.Requests.{value-below}
-use Rattle.policy.specs.Record.{partTestPasses}
 use Rattle.policy.specs.Sized.{Passed}
 use Rattle.policy.proofs.Checked.{count-in-range}
-use Rattle.rules.specs.Rules.{maskLetsBy, ruleLets, letting, testPassesBy, ruleEnabled, enabling}
+use Rattle.rules.specs.Rules.{maskLetsBy, ruleLets, letting, valuePasses, testPassesBy, ruleEnabled, enabling}
 use Rattle.rules.proofs.RuleSets.{passing-same}
-
-all-below-same : (f g : ℕ → Bool) (n : ℕ) → ((k : ℕ) → k < n → f k ≡ g k) → allBelow n f ≡ allBelow n g
-all-below-same f g zero same = refl
-all-below-same f g (suc n) same = rw (all-below-same f g n (λ k l. same k (omega arith)), same n (omega arith))
 
 module _ (p : List ℕ) (x y : ℕ → ℕ) where
   pub letting-same : ((f : ℕ) → f < fields p → x f ≡ y f) → letting p x ≡ letting p y
@@ -27,7 +21,7 @@ module _ (p : List ℕ) (x y : ℕ → ℕ) where
   pub enabling-same : ((j : ℕ) → j < variables p → x j ≡ y j) → enabling p x ≡ enabling p y
   enabling-same same =
       passing-same (ruleEnabled p x) (ruleEnabled p y) (rules p)
-      (λ k l. all-below-same (testPassesBy p (rule p k) x) (testPassesBy p (rule p k) y) (variables p) (λ j m. ap (partTestPasses p (rule p k) j) (same j m)))
+      (λ k l. all-below-same (testPassesBy p (rule p k) x) (testPassesBy p (rule p k) y) (variables p) (λ j m. ap (valuePasses p (rule p k) j) (same j m)))
 
 -- the values of a request's fields number bits of a word
 pub value-small : (p : List ℕ) → Passed p → (r f : ℕ) → f < fields p → value p r f < 64

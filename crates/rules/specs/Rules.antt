@@ -1,12 +1,12 @@
 -- Sets of rules, by the values of a request's fields or of the variables. A set of rules is a number in which bit k says that rule k is in it.
-use mathlib.Core.Bool.{Bool, cond}
+use mathlib.Core.Bool.{Bool, cond, _&&_}
 use mathlib.Core.List.{List}
 use Prim.Native.Nat.{ℕ}
+use lib.Dec.{leb}
 use Rattle.automaton.specs.Below.{allBelow, foldBelow}
 use Rattle.definitions.specs.Bytes.{bit}
-use Rattle.definitions.specs.Policy.{fields, variables, rules, rule, mask, value}
-use Rattle.definitions.specs.Situation.{emptySet, insert}
-use Rattle.policy.specs.Record.{partTestPasses}
+use Rattle.definitions.specs.Policy.{fields, variables, rules, rule, mask, ge, lt, value}
+use Rattle.definitions.specs.Situation.{isBelow, emptySet, insert}
 
 -- the numbers below n that pass a test
 abbrev pub withPassing : (ℕ → Bool) → ℕ → ℕ → ℕ
@@ -32,8 +32,13 @@ abbrev pub lettingRequest : List ℕ → ℕ → ℕ
 lettingRequest p r = letting p (value p r)
 
 -- ---- the tests of rule q are true of the values x of the variables. At the values of valuation v this is enabled
+
+-- those of variable j are true of its value x
+abbrev pub valuePasses : List ℕ → List ℕ → ℕ → ℕ → Bool
+valuePasses p q j x = leb (ge p q j) x && isBelow x (lt p q j)
+
 abbrev pub testPassesBy : List ℕ → List ℕ → (ℕ → ℕ) → ℕ → Bool
-testPassesBy p q x j = partTestPasses p q j (x j)
+testPassesBy p q x j = valuePasses p q j (x j)
 
 abbrev pub enabledBy : List ℕ → List ℕ → (ℕ → ℕ) → Bool
 enabledBy p q x = allBelow (variables p) (testPassesBy p q x)

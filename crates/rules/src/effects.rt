@@ -5,9 +5,8 @@ ghost use lib.ListN.{length};
 ghost use Rattle.definitions.specs.Policy.{variables};
 ghost use Rattle.definitions.specs.Valuation.{bound, variableIn, changed};
 ghost use Rattle.policy.specs.Sized.{Passed, TableOf, RuleOf};
-ghost use Rattle.policy.specs.Record.{partTestPasses};
 ghost use Rattle.rules.specs.Tables.{Filled, Tabled, entryOf};
-ghost use Rattle.rules.specs.Rules.{enabledBy, enabling};
+ghost use Rattle.rules.specs.Rules.{valuePasses, enabledBy, enabling};
 ghost use Rattle.rules.specs.Valuations.{Spread, spread, Valued, carriedBy};
 use super::sets;
 use automaton::wide;
@@ -31,7 +30,7 @@ pub fn fill_bounds(policy: &[u8], table: &[u8], bounds: &mut [usize])
 // Whether the tests of a rule let a value x of variable j through.
 fn test_passes(policy: &[u8], rule: &[u8], j: usize, x: usize) -> bool
     requires { ⌜ RuleOf (now policy) (now rule) × (j < variables (now policy)) ⌝ }
-    ensures { λ r. ⌜ r ≡ partTestPasses (now (policy .entry)) (now (rule .entry)) j x ⌝ }
+    ensures { λ r. ⌜ r ≡ valuePasses (now (policy .entry)) (now (rule .entry)) j x ⌝ }
 {
     if x < record::ge(policy, rule, j) {
         return false;

@@ -10,14 +10,14 @@ use Rattle.definitions.specs.Policy.{width}
 use Rattle.definitions.specs.Valuation.{valuations}
 use Rattle.policy.specs.declared.shape.Shape.{Shape}
 use Rattle.rules.specs.Tables.{Filled}
-use Rattle.images.specs.Images.{imageAt}
+use Rattle.images.specs.Images.{imageEntry}
 use Rattle.images.proofs.Imaged.{rows-more}
 use Rattle.rules.proofs.Tables.{filled-none}
 use Rattle.images.proofs.fill_rows.Statement.{statement}
 use Rattle.images.proofs.fill_rows.Tie as tie
 
 abbrev Inv-loop : tie.InvT-loop
-Inv-loop policy table shape bounds lets levels decisions images₀ w n v₀ images v = (v ≤ n) × Filled 0 0 (v * w) (imageAt policy) images₀ images
+Inv-loop policy table shape bounds lets levels decisions images₀ w n v₀ images v = (v ≤ n) × Filled 0 0 (v * w) (imageEntry policy) images₀ images
 
 abbrev μ-loop : tie.MeasureT-loop
 μ-loop policy table shape bounds lets levels decisions images₀ w n v₀ images v = n - v
@@ -42,7 +42,7 @@ within c =
 loop-holds : tie.Need-loop-holds Inv-loop μ-loop
 loop-holds c =
     let start = c .before .before .before .before .before .before .before in
-    (search needs, rw zero-mul (filled-none 0 0 (imageAt (start .args .policy .now)) (start .args .images .now)))
+    (search needs, rw zero-mul (filled-none 0 0 (imageEntry (start .args .policy .now)) (start .args .images .now)))
 
 mul-at : tie.Need-mul-at Inv-loop μ-loop
 mul-at c = omega (arith, within c)

@@ -15,11 +15,11 @@ returns c =
 kept-requires : tie.Need-kept-requires
 kept-requires c κs = search needs
 
-joined-requires : tie.Need-joined-requires
-joined-requires c κs = search needs
+with-decided-requires : tie.Need-with-decided-requires
+with-decided-requires c κs = search needs
 
-joined-requires-2 : tie.Need-joined-requires-2
-joined-requires-2 c κs = search needs
+with-decided-requires-2 : tie.Need-with-decided-requires-2
+with-decided-requires-2 c κs = search needs
 
 returns-2 : tie.Need-returns-2
 returns-2 c =
@@ -28,10 +28,10 @@ returns-2 c =
     let kept = c .before .before .kept in
     let e = le-ltb (a .level) (a .choice .best) (c .before .before .before .if1 .left) in (
       rw (max-eq-right {n = a .choice .best} {m = a .level} (omega arith)),
-      rw (e, ← (kept .ensures .1)) (c .before .joined .ensures),
-      rw (e, ← (kept .ensures .2)) (c .joined2 .ensures),
+      rw (e, ← (kept .ensures .1)) (c .before .with-decided .ensures),
+      rw (e, ← (kept .ensures .2)) (c .with-decided2 .ensures),
     )
 
 pub with-rule-spec : {M : Type 1} → statement M
 with-rule-spec =
-    tie.close (tie.spec returns kept-requires joined-requires joined-requires-2 returns-2)
+    tie.close (tie.spec returns kept-requires with-decided-requires with-decided-requires-2 returns-2)

@@ -1,13 +1,13 @@
 -- `rules::effects::enabled` meets its contract. The loop's invariant: the tests of every variable before j pass.
-use mathlib.Core.Path.{_≡_, sym, _∙_}
+use mathlib.Core.Path.{_≡_}
 use mathlib.Core.Bool.{true}
 use Prim.Native.Nat.{_≤_, _-_}
 use native.Mathlib.Omega.{arith}
-use borrow.Author.Tests.{not-true, not-false}
 use borrow.Author.Needs.{needs}
 use Rattle.automaton.specs.Below.{allBelow}
 use Rattle.automaton.proofs.Loops.{all-more, all-fails, all-done}
 use Rattle.definitions.specs.Policy.{variables}
+use Rattle.definitions.proofs.Tests.{failed, held}
 use Rattle.rules.specs.Tables.{entryOf}
 use Rattle.rules.specs.Rules.{testPassesBy}
 use Rattle.rules.proofs.effects.enabled.Statement.{statement}
@@ -40,7 +40,7 @@ returns c =
     let loop = c .before .before .before .before .loop in
     let a = start .args in
     all-fails (testPassesBy (a .policy .now) (a .rule .now) (entryOf (a .values .now))) (variables (a .policy .now)) (loop .j) (omega arith)
-    (sym (c .before .test-passes .ensures) ∙ not-true (c .before .test-passes .result) (c .if1 .taken))
+    (failed _ _ (c .before .test-passes .ensures) (c .if1 .taken))
 
 add-j : tie.Need-add-j Inv-loop μ-loop
 add-j c = search needs
@@ -55,7 +55,7 @@ loop-again c =
     let a = start .args in (
       omega arith,
       all-more (testPassesBy (a .policy .now) (a .rule .now) (entryOf (a .values .now))) (loop .j) (loop .inv .1)
-          (sym (c .before .test-passes .ensures) ∙ not-false (c .before .test-passes .result) (c .if1 .left)),
+          (held _ _ (c .before .test-passes .ensures) (c .if1 .left)),
     )
 
 returns-2 : tie.Need-returns-2 Inv-loop μ-loop

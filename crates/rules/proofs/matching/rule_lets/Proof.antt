@@ -1,13 +1,13 @@
 -- `rules::matching::rule_lets` meets its contract. The loop's invariant: every mask before f lets the request through.
-use mathlib.Core.Path.{_≡_, sym, _∙_}
+use mathlib.Core.Path.{_≡_}
 use mathlib.Core.Bool.{true}
 use Prim.Native.Nat.{_≤_, _-_}
 use native.Mathlib.Omega.{arith}
-use borrow.Author.Tests.{not-true, not-false}
 use borrow.Author.Needs.{needs}
 use Rattle.automaton.specs.Below.{allBelow}
 use Rattle.automaton.proofs.Loops.{all-more, all-fails, all-done}
 use Rattle.definitions.specs.Policy.{fields}
+use Rattle.definitions.proofs.Tests.{failed, held}
 use Rattle.rules.specs.Tables.{entryOf}
 use Rattle.rules.specs.Rules.{maskLetsBy}
 use Rattle.rules.proofs.matching.rule_lets.Statement.{statement}
@@ -36,7 +36,7 @@ returns c =
     let loop = c .before .before .before .loop in
     let a = start .args in
     all-fails (maskLetsBy (a .rule .now) (entryOf (a .values .now))) (fields (a .policy .now)) (loop .f) (omega arith)
-    (sym (c .before .mask-lets .ensures) ∙ not-true (c .before .mask-lets .result) (c .if1 .taken))
+    (failed _ _ (c .before .mask-lets .ensures) (c .if1 .taken))
 
 add-f : tie.Need-add-f Inv-loop μ-loop
 add-f c = search needs
@@ -51,7 +51,7 @@ loop-again c =
     let a = start .args in (
       omega arith,
       all-more (maskLetsBy (a .rule .now) (entryOf (a .values .now))) (loop .f) (loop .inv .1)
-          (sym (c .before .mask-lets .ensures) ∙ not-false (c .before .mask-lets .result) (c .if1 .left)),
+          (held _ _ (c .before .mask-lets .ensures) (c .if1 .left)),
     )
 
 returns-2 : tie.Need-returns-2 Inv-loop μ-loop
