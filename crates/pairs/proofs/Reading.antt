@@ -47,14 +47,14 @@ module _ (P : ℕ → Type 0) where
 
 -- what each number from k to r hands on to the next one comes from k to r
 module _ (P : ℕ → Type 0) (k r : ℕ) (l : k ≤ r) (begun : P k) (hands : (j : ℕ) → k ≤ j → j < r → P j → P (suc j)) where
-  climb-by : (i : ℕ) → (j : ℕ) → j ≡ k + i → j ≤ r → P j
-  climb-by zero j e h = let same : j ≡ k = omega arith in rw same begun
-  climb-by (suc i) j e h =
+  induction-by : (i : ℕ) → (j : ℕ) → j ≡ k + i → j ≤ r → P j
+  induction-by zero j e h = let same : j ≡ k = omega arith in rw same begun
+  induction-by (suc i) j e h =
       let last : j ≡ suc (k + i) = omega arith in
-      rw last (hands (k + i) (omega arith) (omega arith) (climb-by i (k + i) refl (omega arith)))
+      rw last (hands (k + i) (omega arith) (omega arith) (induction-by i (k + i) refl (omega arith)))
 
-  pub climb : P r
-  climb = climb-by (r - k) r (omega arith) (omega arith)
+  pub induction : P r
+  induction = induction-by (r - k) r (omega arith) (omega arith)
 
 -- ---- eight zeros
 pub word-zero : (l : List ℕ) (k : ℕ) → wordAt l k ≡ 0 → (j : ℕ) → k ≤ j → j < k + 8 → getD l j 0 ≡ 0

@@ -25,7 +25,7 @@ use Rattle.pairs.specs.Labels.{labelAt, itself, moved}
 use Rattle.pairs.specs.Rows.{Rows, Alike, FirstFailing}
 use Rattle.pairs.specs.Search.{Books, Ready, Readable, Searching, AlikeBy, Found, queueOf, rowFrom}
 use Rattle.pairs.specs.declared.Spot.the-variants.{Nowhere, At}
-use Rattle.pairs.proofs.Reading.{climb}
+use Rattle.pairs.proofs.Reading.{induction}
 use Rattle.pairs.proofs.Labelling.{moved-merged, low-label, not-none, moved-above, begunLabels, begun-length, begun-above, begun-merged}
 
 -- ---- the two machines. The number n + 1 stands for no state, so that the first machine is taken as one with n + 1 states.
@@ -282,4 +282,4 @@ module _ (b d : List ℕ) (w n m i : ℕ) (pairs trail label : List ℕ) (l : i 
   past-one c k e S = rw (← add-one c) (turned-alike b d w n m i c pairs trail label S l k (entry b (firstAt pairs i) c) (entry d (secondAt pairs i) c) refl refl e)
 
   pub passed-over : (c r : ℕ) → Come c → FirstFailing (AlikeBy b d n i pairs label) c w r → Come r
-  passed-over c r S F = climb Come c r (F .least) S (λ j h k. past-one j (omega (arith, F .most)) (F .before j h k))
+  passed-over c r S F = induction Come c r (F .least) S (λ j h k. past-one j (omega (arith, F .most)) (F .before j h k))

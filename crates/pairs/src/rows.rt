@@ -46,7 +46,7 @@ fn unlike_before(
     end
 }
 
-// The first place from k on, in steps of eight, at which the next eight entries of the rows are not all 0, or fewer than eight are left.
+// The first place from `from` on, in steps of eight, at which the next eight entries of both rows are not all 0, or fewer than eight are left.
 fn past_zeros(one: &[u8], other: &[u8], width: usize, from: usize) -> usize
     requires { ⌜ (width ≤ length (now one)) × (width ≤ length (now other)) ⌝ }
     requires { ⌜ (from ≤ width) × (width ≤ 136) ⌝ }
