@@ -1,5 +1,2 @@
 -- Laws that belong to no one function.
-pub mod Filling
-pub mod Labelling
-pub mod Reading
 pub mod Searching

@@ -21,12 +21,12 @@ use Rattle.definitions.proofs.BookSteps.{step-is-entry, step-inside, has-states
 use Rattle.book.proofs.Places.{row-inside}
 use Rattle.search.specs.Trail.{firstAt, secondAt, placed, historyAt}
 use Rattle.search.proofs.Trails.{placed-first, placed-second, placed-length}
-use Rattle.pairs.specs.Labels.{labelAt, itself, moved}
-use Rattle.pairs.specs.Rows.{Rows, Alike, FirstFailing}
+use Rattle.labels.specs.Labels.{labelAt, itself, moved}
+use Rattle.labels.specs.Rows.{Rows, Alike, FirstFailing}
 use Rattle.pairs.specs.Search.{Books, Ready, Readable, Searching, AlikeBy, Found, queueOf, rowFrom}
 use Rattle.pairs.specs.declared.Spot.the-variants.{Nowhere, At}
-use Rattle.pairs.proofs.Reading.{induction}
-use Rattle.pairs.proofs.Labelling.{moved-merged, low-label, not-none, moved-above, begunLabels, begun-length, begun-above, begun-merged}
+use Rattle.labels.proofs.Reading.{induction}
+use Rattle.labels.proofs.Labelling.{moved-merged, low-label, not-none, moved-above, begunLabels, begun-length, begun-above, begun-merged}
 
 -- ---- the two machines. The number n + 1 stands for no state, so that the first machine is taken as one with n + 1 states.
 module _ (b d : List ℕ) (w n : ℕ) (B : Books b d w n) where

@@ -1,3 +1,1 @@
-pub mod Labels
-pub mod Rows
 pub mod Search

@@ -12,7 +12,7 @@ use Rattle.definitions.specs.Book.{width, states, entry, bookMachine}
 use Rattle.definitions.specs.Compare.{comparison}
 use Rattle.definitions.proofs.Accepted.{BookPassed}
 use Rattle.search.specs.Trail.{firstAt, secondAt, historyAt}
-use Rattle.pairs.specs.Labels.{labelAt, OwnAbove}
+use Rattle.labels.specs.Labels.{labelAt, OwnAbove}
 use Rattle.pairs.specs.declared.Tried.{Tried}
 use Rattle.pairs.specs.declared.Tried.the-variants.{Parts, Pairs}
 use Rattle.pairs.specs.declared.Spot.{Spot}

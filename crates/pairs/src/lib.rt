@@ -7,18 +7,14 @@ ghost use Rattle.automaton.specs.Below.{listBelow};
 ghost use Rattle.definitions.specs.Book as Book;
 ghost use Rattle.definitions.proofs.Accepted.{BookLayout};
 ghost use Rattle.search.specs.Trail.{placed};
-ghost use Rattle.pairs.specs.Labels.{itself};
-ghost use Rattle.pairs.specs.Rows.{FirstFailing};
+ghost use Rattle.labels.specs.Labels.{itself};
+ghost use Rattle.labels.specs.Rows.{FirstFailing};
 ghost use Rattle.pairs.specs.Search.{Ready, Readable, Searching, AlikeBy, rowFrom, Outcome, Found};
-
-mod labels;
-mod rows;
-
 use automaton::wide;
 use book::entry;
+use labels::first_unlike;
 use labels::merge;
 use labels::own_labels;
-use rows::first_unlike;
 use search::put;
 
 // What trying codes of a pair shows: a code that just one of its states can take, or the number of pairs queued by then.

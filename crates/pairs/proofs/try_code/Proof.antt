@@ -5,7 +5,7 @@ use native.Mathlib.Omega.{arith}
 use denote.Ref.{now}
 use Rattle.definitions.specs.Book.{states, entry}
 use Rattle.search.specs.Trail.{firstAt, secondAt}
-use Rattle.pairs.specs.Labels.{labelAt}
+use Rattle.labels.specs.Labels.{labelAt}
 use Rattle.pairs.specs.Search.{Books}
 use Rattle.pairs.proofs.Searching.{left-state, right-state, few-pairs, low-left, low-right, turned-second, turned-first, turned-new}
 use borrow.Author.Needs.{needs}

@@ -2,11 +2,11 @@
 use mathlib.Core.Path.{sym, _∙_}
 use Prim.Native.Nat.{_-_}
 use native.Mathlib.Omega.{arith}
-use Rattle.pairs.specs.Rows.{NoneBefore}
-use Rattle.pairs.proofs.Reading.{none-begun, none-further}
+use Rattle.labels.specs.Rows.{NoneBefore}
+use Rattle.labels.proofs.Reading.{none-begun, none-further}
 use borrow.Author.Needs.{needs}
-use Rattle.pairs.proofs.rows.past_zeros.Statement.{statement}
-use Rattle.pairs.proofs.rows.past_zeros.Tie as tie
+use Rattle.labels.proofs.rows.past_zeros.Statement.{statement}
+use Rattle.labels.proofs.rows.past_zeros.Tie as tie
 
 abbrev Inv-loop : tie.InvT-loop
 Inv-loop one other width from k₀ k = NoneBefore one other width from k

@@ -3,11 +3,11 @@ use Prim.Native.Nat.{_-_}
 use native.Mathlib.Omega.{arith}
 use mathlib.Core.Path.{refl}
 use lib.ListN.{length}
-use Rattle.pairs.specs.Labels.{itself}
-use Rattle.pairs.proofs.Filling.{Filled, filled-begun, filled-turn, filled-done}
+use Rattle.labels.specs.Labels.{itself}
+use Rattle.labels.proofs.Filling.{Filled, filled-begun, filled-turn, filled-done}
 use borrow.Author.Needs.{needs}
-use Rattle.pairs.proofs.labels.own_labels.Statement.{statement}
-use Rattle.pairs.proofs.labels.own_labels.Tie as tie
+use Rattle.labels.proofs.classes.own_labels.Statement.{statement}
+use Rattle.labels.proofs.classes.own_labels.Tie as tie
 
 abbrev Inv-loop : tie.InvT-loop
 Inv-loop label₀ u₀ label u = Filled itself label₀ u label

@@ -1,9 +1,9 @@
 -- `merge` meets its contract: where one number has the label, one store moves it.
 use native.Mathlib.Omega.{arith}
-use Rattle.pairs.proofs.Labelling.{alone}
+use Rattle.labels.proofs.Labelling.{alone}
 use borrow.Author.Needs.{needs}
-use Rattle.pairs.proofs.labels.merge.Statement.{statement}
-use Rattle.pairs.proofs.labels.merge.Tie as tie
+use Rattle.labels.proofs.classes.merge.Statement.{statement}
+use Rattle.labels.proofs.classes.merge.Tie as tie
 
 slice-read-from : tie.Need-slice-read-from
 slice-read-from c = search needs

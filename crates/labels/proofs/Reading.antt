@@ -5,7 +5,7 @@ use Prim.Native.Nat.{ℕ, zero, suc, _+_, _-_, _≤_, _<_}
 use native.Mathlib.Omega.{arith}
 use native.Mathlib.Decide.{decLt}
 use lib.ListN.{getD}
-use Rattle.pairs.specs.Rows.{wordAt, Rows, Alike, FirstFailing, NoneBefore}
+use Rattle.labels.specs.Rows.{halfAt, wordAt, Rows, Alike, FirstFailing, NoneBefore}
 
 -- ---- the first number at which P fails
 module _ (P : ℕ → Type 0) where
@@ -57,8 +57,8 @@ module _ (P : ℕ → Type 0) (k r : ℕ) (l : k ≤ r) (begun : P k) (hands : (
   induction = induction-by (r - k) r (omega arith) (omega arith)
 
 -- ---- eight zeros
-pub word-zero : (l : List ℕ) (k : ℕ) → wordAt l k ≡ 0 → (j : ℕ) → k ≤ j → j < k + 8 → getD l j 0 ≡ 0
-word-zero l k e j h b = go (j - k) refl
+half-zero : (l : List ℕ) (k : ℕ) → halfAt l k ≡ 0 → (j : ℕ) → k ≤ j → j < k + 4 → getD l j 0 ≡ 0
+half-zero l k e j h b = go (j - k) refl
   where
     at : (i : ℕ) → j - k ≡ i → getD l (k + i) 0 ≡ 0 → getD l j 0 ≡ 0
     at i q z = let is : j ≡ k + i = omega arith in rw is z
@@ -68,11 +68,14 @@ word-zero l k e j h b = go (j - k) refl
     go (suc zero) q = at 1 q (omega (arith, e))
     go (suc (suc zero)) q = at 2 q (omega (arith, e))
     go (suc (suc (suc zero))) q = at 3 q (omega (arith, e))
-    go (suc (suc (suc (suc zero)))) q = at 4 q (omega (arith, e))
-    go (suc (suc (suc (suc (suc zero))))) q = at 5 q (omega (arith, e))
-    go (suc (suc (suc (suc (suc (suc zero)))))) q = at 6 q (omega (arith, e))
-    go (suc (suc (suc (suc (suc (suc (suc zero))))))) q = at 7 q (omega (arith, e))
-    go (suc (suc (suc (suc (suc (suc (suc (suc i)))))))) q = absurd (omega arith)
+    go (suc (suc (suc (suc i)))) q = absurd (omega arith)
+
+pub word-zero : (l : List ℕ) (k : ℕ) → wordAt l k ≡ 0 → (j : ℕ) → k ≤ j → j < k + 8 → getD l j 0 ≡ 0
+word-zero l k e j h b = go (decLt j (k + 4))
+  where
+    go : Dec (j < k + 4) → getD l j 0 ≡ 0
+    go (yes p) = half-zero l k (omega (arith, e)) j h p
+    go (no p) = half-zero l (k + 4) (omega (arith, e)) j (omega arith) (omega arith)
 
 module _ (one other : List ℕ) (w from : ℕ) where
   pub none-begun : from ≤ w → NoneBefore one other w from from

@@ -3,19 +3,14 @@ use mathlib.Core.Path.{_≡_}
 use mathlib.Core.List.{List}
 use Prim.Native.Nat.{ℕ, _+_, _*_, _≤_, _<_}
 use lib.ListN.{length, getD}
-use Rattle.pairs.specs.Labels.{labelAt}
+use Rattle.labels.specs.Labels.{labelAt}
 
--- eight bytes from place k on as one number, the first lowest
+-- four bytes from place k on as one number, the first lowest, and eight
+abbrev pub halfAt : List ℕ → ℕ → ℕ
+halfAt l k = getD l k 0 + 0x100 * getD l (k + 1) 0 + 0x10000 * getD l (k + 2) 0 + 0x1000000 * getD l (k + 3) 0
+
 abbrev pub wordAt : List ℕ → ℕ → ℕ
-wordAt l k =
-    getD l k 0
-    + 0x100 * getD l (k + 1) 0
-    + 0x10000 * getD l (k + 2) 0
-    + 0x1000000 * getD l (k + 3) 0
-    + 0x100000000 * getD l (k + 4) 0
-    + 0x10000000000 * getD l (k + 5) 0
-    + 0x1000000000000 * getD l (k + 6) 0
-    + 0x100000000000000 * getD l (k + 7) 0
+wordAt l k = halfAt l k + 0x100000000 * halfAt l (k + 4)
 
 -- rows of at least w entries that all have labels, with one label for entry 0 of either row
 pub record Rows (one other : List ℕ) (w base : ℕ) (label : List ℕ) : Type 0 where

@@ -1,11 +1,11 @@
 -- `first_unlike` meets its contract: the labels are the same at each place before k.
 use Prim.Native.Nat.{_-_, _≤_}
 use native.Mathlib.Omega.{arith}
-use Rattle.pairs.specs.Rows.{Alike}
-use Rattle.pairs.proofs.Reading.{Throughout, through, fails-later, fails-in-part, whole-part, none-alike}
+use Rattle.labels.specs.Rows.{Alike}
+use Rattle.labels.proofs.Reading.{Throughout, through, fails-later, fails-in-part, whole-part, none-alike}
 use borrow.Author.Needs.{needs}
-use Rattle.pairs.proofs.rows.first_unlike.Statement.{statement}
-use Rattle.pairs.proofs.rows.first_unlike.Tie as tie
+use Rattle.labels.proofs.rows.first_unlike.Statement.{statement}
+use Rattle.labels.proofs.rows.first_unlike.Tie as tie
 
 abbrev Inv-loop : tie.InvT-loop
 Inv-loop one other width base label from k₀ k = (from ≤ k) × (k ≤ width) × Throughout (Alike one other base label) from k

@@ -3,11 +3,11 @@ use Prim.Native.Nat.{_-_}
 use native.Mathlib.Omega.{arith}
 use mathlib.Core.Path.{ap, _∙_}
 use lib.ListN.{length}
-use Rattle.pairs.specs.Labels.{moved}
-use Rattle.pairs.proofs.Filling.{Filled, elsewhere, filled-begun, filled-read, filled-turn, filled-done, map-below}
+use Rattle.labels.specs.Labels.{moved}
+use Rattle.labels.proofs.Filling.{Filled, elsewhere, filled-begun, filled-read, filled-turn, filled-done, map-below}
 use borrow.Author.Needs.{needs}
-use Rattle.pairs.proofs.labels.relabel.Statement.{statement}
-use Rattle.pairs.proofs.labels.relabel.Tie as tie
+use Rattle.labels.proofs.classes.relabel.Statement.{statement}
+use Rattle.labels.proofs.classes.relabel.Tie as tie
 
 abbrev Inv-loop : tie.InvT-loop
 Inv-loop label₀ from to u₀ label u = Filled (elsewhere (moved from to) label₀) label₀ u label

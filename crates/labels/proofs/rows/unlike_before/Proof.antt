@@ -2,11 +2,11 @@
 use mathlib.Core.Path.{_≡_}
 use Prim.Native.Nat.{_-_, _≤_}
 use native.Mathlib.Omega.{arith}
-use Rattle.pairs.specs.Rows.{Alike}
-use Rattle.pairs.proofs.Reading.{Throughout, through, through-one, fails-at-once, fails-nowhere, fails-later}
+use Rattle.labels.specs.Rows.{Alike}
+use Rattle.labels.proofs.Reading.{Throughout, through, through-one, fails-at-once, fails-nowhere, fails-later}
 use borrow.Author.Needs.{needs}
-use Rattle.pairs.proofs.rows.unlike_before.Statement.{statement}
-use Rattle.pairs.proofs.rows.unlike_before.Tie as tie
+use Rattle.labels.proofs.rows.unlike_before.Statement.{statement}
+use Rattle.labels.proofs.rows.unlike_before.Tie as tie
 
 abbrev Inv-loop : tie.InvT-loop
 Inv-loop one other width base label from end k₀ k = (from ≤ k) × (k ≤ end) × Throughout (Alike one other base label) from k

@@ -12,8 +12,8 @@ use borrow.Author.Tests.{eq-eqb, ne-eqb}
 use Rattle.automaton.specs.Below.{listBelow}
 use Rattle.automaton.proofs.Counting.{length-list-below, getD-list-below}
 use Rattle.automaton.proofs.Labels.{Among, Merged}
-use Rattle.pairs.specs.Labels.{labelAt, itself, moved, OwnAbove}
-use Rattle.pairs.proofs.Filling.{getD-map}
+use Rattle.labels.specs.Labels.{labelAt, itself, moved, OwnAbove}
+use Rattle.labels.proofs.Filling.{getD-map}
 
 moved-from : (from to x : ℕ) → x ≡ from → moved from to x ≡ to
 moved-from from to x e = rw (eq-eqb x from e)

@@ -1,7 +1,7 @@
 -- `moved` meets its contract.
 use borrow.Author.Tests.{eq-eqb, ne-eqb}
-use Rattle.pairs.proofs.labels.moved.Statement.{statement}
-use Rattle.pairs.proofs.labels.moved.Tie as tie
+use Rattle.labels.proofs.classes.moved.Statement.{statement}
+use Rattle.labels.proofs.classes.moved.Tie as tie
 
 returns : tie.Need-returns
 returns c = simp (eq-eqb _ _ (c .if1 .taken))

@@ -1,23 +1,27 @@
 // Two rows read side by side: the first place where their entries lead to states of two labels.
 ghost use mathlib.Core.Path.{_≡_};
-ghost use Prim.Native.Nat.{_+_, _≤_};
+ghost use Prim.Native.Nat.{_+_, _≤_, _<_};
 ghost use lib.ListN.{length};
-ghost use Rattle.pairs.specs.Rows.{wordAt, Rows, Alike, FirstFailing, NoneBefore};
+ghost use Rattle.labels.specs.Rows.{halfAt, wordAt, Rows, Alike, FirstFailing, NoneBefore};
 use automaton::wide;
 
-// Eight bytes from place k on as one number, the first lowest, which the compiler makes one load of.
-fn word(row: &[u8], k: usize) -> usize
-    requires { ⌜ k + 8 ≤ length (now row) ⌝ }
-    ensures { λ r. ⌜ r ≡ wordAt (now (row .entry)) k ⌝ }
+// Four bytes from place k on as one number, the first lowest.
+fn half(row: &[u8], k: usize) -> usize
+    requires { ⌜ k + 4 ≤ length (now row) ⌝ }
+    ensures { λ r. ⌜ (r ≡ halfAt (now (row .entry)) k) × (r < 0x100000000) ⌝ }
 {
     wide(row[k])
         + 0x100 * wide(row[k + 1])
         + 0x10000 * wide(row[k + 2])
         + 0x1000000 * wide(row[k + 3])
-        + 0x100000000 * wide(row[k + 4])
-        + 0x10000000000 * wide(row[k + 5])
-        + 0x1000000000000 * wide(row[k + 6])
-        + 0x100000000000000 * wide(row[k + 7])
+}
+
+// Eight, which the compiler makes one load of.
+fn word(row: &[u8], k: usize) -> usize
+    requires { ⌜ k + 8 ≤ length (now row) ⌝ }
+    ensures { λ r. ⌜ r ≡ wordAt (now (row .entry)) k ⌝ }
+{
+    half(row, k) + 0x100000000 * half(row, k + 4)
 }
 
 // The first place from `from` on, below `end`, at which the labels are two; `end` if there is none.

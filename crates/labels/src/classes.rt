@@ -3,7 +3,7 @@ ghost use mathlib.Core.Path.{_≡_};
 ghost use mathlib.Core.List.{map};
 ghost use Prim.Native.Nat.{_+_, _≤_, _<_};
 ghost use lib.ListN.{length};
-ghost use Rattle.pairs.specs.Labels.{itself, labelAt, moved as movedTo, OwnAbove};
+ghost use Rattle.labels.specs.Labels.{itself, labelAt, moved as movedTo, OwnAbove};
 ghost use Rattle.automaton.specs.Below.{listBelow};
 use automaton::wide;
 
