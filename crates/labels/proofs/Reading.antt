@@ -5,7 +5,7 @@ use Prim.Native.Nat.{ℕ, zero, suc, _+_, _-_, _≤_, _<_}
 use native.Mathlib.Omega.{arith}
 use native.Mathlib.Decide.{decLt}
 use lib.ListN.{getD}
-use Rattle.labels.specs.Rows.{halfAt, wordAt, Rows, Alike, FirstFailing, NoneBefore}
+use Rattle.labels.specs.Rows.{halfAt, wordAt, Rows, Alike, FirstFailing}
 
 -- ---- the first number at which P fails
 module _ (P : ℕ → Type 0) where
@@ -77,20 +77,11 @@ word-zero l k e j h b = go (decLt j (k + 4))
     go (yes p) = half-zero l k (omega (arith, e)) j h p
     go (no p) = half-zero l (k + 4) (omega (arith, e)) j (omega arith) (omega arith)
 
-module _ (one other : List ℕ) (w from : ℕ) where
-  pub none-begun : from ≤ w → NoneBefore one other w from from
-  none-begun l = record { least = omega arith; most = l; first = λ k h b. absurd (omega arith); second = λ k h b. absurd (omega arith) }
+module _ (one other : List ℕ) (w base : ℕ) (label : List ℕ) (R : Rows one other w base label) where
+  -- where both entries are 0 they have one label
+  pub none-alike : (k : ℕ) → getD one k 0 ≡ 0 → getD other k 0 ≡ 0 → Alike one other base label k
+  none-alike k ex ey = rw (ex, ey) (R .none)
 
-  -- eight more
-  pub none-further : (k : ℕ) → NoneBefore one other w from k → k + 8 ≤ w → wordAt one k ≡ 0 → wordAt other k ≡ 0 → NoneBefore one other w from (k + 8)
-  none-further k N l ex ey = record {
-    least = omega (arith, N .least);
-    most = l;
-    first = through (λ j. getD one j 0 ≡ 0) from k (k + 8) (N .first) (word-zero one k ex);
-    second = through (λ j. getD other j 0 ≡ 0) from k (k + 8) (N .second) (word-zero other k ey);
-  }
-
--- where both entries are 0 they have one label
-pub none-alike : (one other : List ℕ) (w base : ℕ) (label : List ℕ) → Rows one other w base label → (from r : ℕ) → NoneBefore one other w from r
-    → Throughout (Alike one other base label) from r
-none-alike one other w base label R from r N k h b = rw (N .first k h b, N .second k h b) (R .none)
+  pub eight-alike : (k : ℕ) → wordAt one k ≡ 0 → wordAt other k ≡ 0 → FirstFailing (Alike one other base label) k (k + 8) (k + 8)
+  eight-alike k ex ey = fails-nowhere (Alike one other base label) k (k + 8) (omega arith)
+      (λ j h b. none-alike j (word-zero one k ex j h b) (word-zero other k ey j h b))

@@ -30,10 +30,3 @@ pub record FirstFailing (P : ℕ → Type 0) (from end r : ℕ) : Type 0 where
   pub most : r ≤ end
   pub before : (k : ℕ) → from ≤ k → k < r → P k
   pub fails : r < end → P r → ⊥
-
--- the entries of both rows from `from` to r are 0
-pub record NoneBefore (one other : List ℕ) (w from r : ℕ) : Type 0 where
-  pub least : from ≤ r
-  pub most : r ≤ w
-  pub first : (k : ℕ) → from ≤ k → k < r → getD one k 0 ≡ 0
-  pub second : (k : ℕ) → from ≤ k → k < r → getD other k 0 ≡ 0

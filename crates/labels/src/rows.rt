@@ -2,7 +2,7 @@
 ghost use mathlib.Core.Path.{_≡_};
 ghost use Prim.Native.Nat.{_+_, _≤_, _<_};
 ghost use lib.ListN.{length};
-ghost use Rattle.labels.specs.Rows.{halfAt, wordAt, Rows, Alike, FirstFailing, NoneBefore};
+ghost use Rattle.labels.specs.Rows.{halfAt, wordAt, Rows, Alike, FirstFailing};
 use automaton::wide;
 
 // Four bytes from place k on as one number, the first lowest.
@@ -50,23 +50,25 @@ fn unlike_before(
     end
 }
 
-// The first place from `from` on, in steps of eight, at which the next eight entries of both rows are not all 0, or fewer than eight are left.
-fn past_zeros(one: &[u8], other: &[u8], width: usize, from: usize) -> usize
-    requires { ⌜ (width ≤ length (now one)) × (width ≤ length (now other)) ⌝ }
-    requires { ⌜ (from ≤ width) × (width ≤ 136) ⌝ }
-    ensures { λ r. ⌜ NoneBefore (now (one .entry)) (now (other .entry)) width from r ⌝ }
+// The same for the eight places from k on. Where all their entries are 0 they are passed over at once.
+fn unlike_of_eight(
+    one: &[u8],
+    other: &[u8],
+    width: usize,
+    base: usize,
+    label: &[u8],
+    k: usize,
+) -> usize
+    requires { ⌜ Rows (now one) (now other) width base (now label) ⌝ }
+    requires { ⌜ k + 8 ≤ width ⌝ }
+    ensures { λ r. ⌜ FirstFailing (Alike (now (one .entry)) (now (other .entry)) base (now (label .entry))) k (k + 8) r ⌝ }
 {
-    let mut k = from;
-    while k + 8 <= width {
-        if word(one, k) != 0 {
-            return k;
+    if word(one, k) == 0 {
+        if word(other, k) == 0 {
+            return k + 8;
         }
-        if word(other, k) != 0 {
-            return k;
-        }
-        k += 8;
     }
-    k
+    unlike_before(one, other, width, base, label, k, k + 8)
 }
 
 // The first place from `from` on at which the labels are two; the width if there is none.
@@ -82,13 +84,13 @@ pub fn first_unlike(
     requires { ⌜ (from ≤ width) × (width ≤ 136) ⌝ }
     ensures { λ r. ⌜ FirstFailing (Alike (now (one .entry)) (now (other .entry)) base (now (label .entry))) from width r ⌝ }
 {
-    let mut k = past_zeros(one, other, width, from);
+    let mut k = from;
     while k + 8 <= width {
-        let r = unlike_before(one, other, width, base, label, k, k + 8);
+        let r = unlike_of_eight(one, other, width, base, label, k);
         if r < k + 8 {
             return r;
         }
-        k = past_zeros(one, other, width, k + 8);
+        k += 8;
     }
     unlike_before(one, other, width, base, label, k, width)
 }
