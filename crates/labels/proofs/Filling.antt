@@ -1,13 +1,14 @@
 -- A list that is filled from its front, place i with f i: what holds on the way.
 use mathlib.Core.Path.{_≡_, refl, ap, sym, _∙_}
-use mathlib.Core.List.{List, [], _∷_, _++_, map, append-nil}
-use Prim.Native.Nat.{ℕ, zero, suc, _+_, _≤_, _<_}
+use mathlib.Core.List.{List, _∷_, _++_, map, append-nil}
+use Prim.Native.Nat.{ℕ, suc, _+_, _≤_, _<_}
 use native.Mathlib.Numerals.{add-one}
 use native.Mathlib.Omega.{arith}
 use lib.ListN.{length, getD, set, drop, length-map, length-set, drop-of-length-le}
 use lib.Seq.{drop-cons, append-snoc, set-at, getD-at, ext-getD}
 use Rattle.automaton.specs.Below.{listBelow}
 use Rattle.automaton.proofs.Counting.{length-list-below, getD-list-below}
+use Rattle.automaton.proofs.WellFormed.{getD-map-within}
 
 -- the first i places are filled, and the others are as they were
 pub record Filled (f : ℕ → ℕ) (old : List ℕ) (i : ℕ) (l : List ℕ) : Type 0 where
@@ -44,11 +45,6 @@ module _ (f : ℕ → ℕ) (old : List ℕ) (i : ℕ) (l : List ℕ) (S : Filled
 
 -- a function applied to each element of a list, place by place
 module _ (g : ℕ → ℕ) where
-  pub getD-map : (l : List ℕ) (k : ℕ) → k < length l → getD (map g l) k 0 ≡ g (getD l k 0)
-  getD-map [] k b = absurd (omega arith)
-  getD-map (x ∷ l) zero b = refl
-  getD-map (x ∷ l) (suc k) b = getD-map l k (omega arith)
-
   abbrev pub elsewhere : List ℕ → ℕ → ℕ
   elsewhere l k = g (getD l k 0)
 
@@ -59,4 +55,4 @@ module _ (g : ℕ → ℕ) where
       long = length-list-below (elsewhere l) (length l)
 
       each : (k : ℕ) → k < length (listBelow (length l) (elsewhere l)) → getD (listBelow (length l) (elsewhere l)) k 0 ≡ getD (map g l) k 0
-      each k b = getD-list-below (elsewhere l) (length l) k 0 (omega (arith, long)) ∙ sym (getD-map l k (omega (arith, long)))
+      each k b = getD-list-below (elsewhere l) (length l) k 0 (omega (arith, long)) ∙ sym (getD-map-within g l k 0 0 (omega (arith, long)))

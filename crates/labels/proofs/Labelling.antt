@@ -12,8 +12,8 @@ use borrow.Author.Tests.{eq-eqb, ne-eqb}
 use Rattle.automaton.specs.Below.{listBelow}
 use Rattle.automaton.proofs.Counting.{length-list-below, getD-list-below}
 use Rattle.automaton.proofs.Labels.{Among, Merged}
+use Rattle.automaton.proofs.WellFormed.{getD-map-within}
 use Rattle.labels.specs.Labels.{labelAt, itself, moved, OwnAbove}
-use Rattle.labels.proofs.Filling.{getD-map}
 
 moved-from : (from to x : ℕ) → x ≡ from → moved from to x ≡ to
 moved-from from to x e = rw (eq-eqb x from e)
@@ -24,7 +24,7 @@ moved-other from to x n = rw (ne-eqb x from n)
 -- the labels of x and y made one
 pub moved-merged : (N x y from to : ℕ) (l : List ℕ) → N < length l → from ≡ labelAt l y → to ≡ labelAt l x
     → Merged N x y (labelAt l) (labelAt (map (moved from to) l))
-moved-merged N x y from to l room ef et u a = getD-map (moved from to) l u (omega (arith, a .most)) ∙ rw (ef, et)
+moved-merged N x y from to l room ef et u a = getD-map-within (moved from to) l u 0 0 (omega (arith, a .most)) ∙ rw (ef, et)
 
 module _ (n : ℕ) (label : List ℕ) (O : OwnAbove n label) where
   -- a label of the first book's states is a number of theirs
@@ -56,21 +56,21 @@ module _ (n : ℕ) (label : List ℕ) (O : OwnAbove n label) where
             go (no p) = let z : u ≡ 0 = omega arith in not-none (sym e ∙ (rw z (O .zero)))
 
         each : (u : ℕ) → u < length label → Dec (u ≡ v) → getD (set label v to) u 0 ≡ getD (map (moved (labelAt label v) to) label) u 0
-        each u b (yes e) = rw e (getD-set-same label v to 0 within ∙ sym (getD-map (moved (labelAt label v) to) label v within ∙ moved-from (labelAt label v) to (labelAt label v) refl))
-        each u b (no e) = getD-set-other label v u to 0 e ∙ sym (getD-map (moved (labelAt label v) to) label u b ∙ moved-other (labelAt label v) to (labelAt label u) (other u b e))
+        each u b (yes e) = rw e (getD-set-same label v to 0 within ∙ sym (getD-map-within (moved (labelAt label v) to) label v 0 0 within ∙ moved-from (labelAt label v) to (labelAt label v) refl))
+        each u b (no e) = getD-set-other label v u to 0 e ∙ sym (getD-map-within (moved (labelAt label v) to) label u 0 0 b ∙ moved-other (labelAt label v) to (labelAt label u) (other u b e))
 
     pub moved-above : (to : ℕ) → to ≤ n → OwnAbove n (map (moved (labelAt label v) to) label)
     moved-above to low = record {
-      zero = getD-map (moved (labelAt label v) to) label 0 (omega arith) ∙ moved-other (labelAt label v) to (labelAt label 0) (λ e. not-none (sym e ∙ O .zero)) ∙ O .zero;
-      next = getD-map (moved (labelAt label v) to) label (n + 1) (omega arith) ∙ moved-other (labelAt label v) to (labelAt label (n + 1)) (λ e. not-none (sym e ∙ O .next)) ∙ O .next;
+      zero = getD-map-within (moved (labelAt label v) to) label 0 0 0 (omega arith) ∙ moved-other (labelAt label v) to (labelAt label 0) (λ e. not-none (sym e ∙ O .zero)) ∙ O .zero;
+      next = getD-map-within (moved (labelAt label v) to) label (n + 1) 0 0 (omega arith) ∙ moved-other (labelAt label v) to (labelAt label (n + 1)) (λ e. not-none (sym e ∙ O .next)) ∙ O .next;
       own = λ u some b above. own u some (rw length-map at b) above (ℕ-discrete (labelAt label u) (labelAt label v));
     }
       where
         own : (u : ℕ) → 0 < u → u < length label → n < labelAt (map (moved (labelAt label v) to) label) u → Dec (labelAt label u ≡ labelAt label v)
             → labelAt (map (moved (labelAt label v) to) label) u ≡ u
-        own u some b above (yes e) = absurd (omega (arith, above, getD-map (moved (labelAt label v) to) label u b ∙ moved-from (labelAt label v) to (labelAt label u) e))
+        own u some b above (yes e) = absurd (omega (arith, above, getD-map-within (moved (labelAt label v) to) label u 0 0 b ∙ moved-from (labelAt label v) to (labelAt label u) e))
         own u some b above (no e) =
-            let same : labelAt (map (moved (labelAt label v) to) label) u ≡ labelAt label u = getD-map (moved (labelAt label v) to) label u b ∙ moved-other (labelAt label v) to (labelAt label u) e in
+            let same : labelAt (map (moved (labelAt label v) to) label) u ≡ labelAt label u = getD-map-within (moved (labelAt label v) to) label u 0 0 b ∙ moved-other (labelAt label v) to (labelAt label u) e in
             same ∙ O .own u some b (omega (arith, above, same))
 
 -- ---- the beginning: each number has its own label, but number 0 has that of n + 1, and n + 2 that of 1
