@@ -7,6 +7,7 @@ pub mod Earliest
 pub mod Congruence
 pub mod Turns
 pub mod WellFormed
+pub mod Filling
 pub mod Refining
 pub mod Settled
 pub mod Joined

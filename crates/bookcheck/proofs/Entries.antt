@@ -43,7 +43,7 @@ module _ (b : List ℕ) where
       go (no p) ih = (k, omega arith, omega arith)
 
 -- ---- what the tests say of each entry
-same-truth : (a b : Bool) → (a ≡ true → b ≡ true) → (b ≡ true → a ≡ true) → a ≡ b
+pub same-truth : (a b : Bool) → (a ≡ true → b ≡ true) → (b ≡ true → a ≡ true) → a ≡ b
 same-truth true b f g = sym (f refl)
 same-truth false true f g = g refl
 same-truth false false f g = refl

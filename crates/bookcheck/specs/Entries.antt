@@ -1,7 +1,7 @@
 -- Rows 12 and 14 as the code takes them: the start of a book in one test, its entries in two.
 use mathlib.Core.Bool.{Bool, _&&_}
 use mathlib.Core.List.{List}
-use Prim.Native.Nat.{ℕ, zero, suc, max, _+_, _*_}
+use Prim.Native.Nat.{ℕ, zero, suc, max, min, _+_, _*_}
 use lib.Dec.{leb}
 use lib.ListN.{length}
 use Rattle.automaton.specs.Below.{allBelow}
@@ -27,3 +27,7 @@ rowLeadsOn b i = allBelow (events b) (leadsOn b (12 + i * width b))
 
 abbrev pub eventsLeadOn : List ℕ → Bool
 eventsLeadOn b = allBelow (states b) (rowLeadsOn b)
+
+-- the lesser of a byte and the entry of its column in the row that begins at byte `at`
+abbrev pub lesser : List ℕ → List ℕ → ℕ → ℕ → ℕ
+lesser least b at c = min (byte least c) (byte b (at + c))

@@ -2,10 +2,11 @@
 ghost use mathlib.Core.Path.{_≡_};
 ghost use Prim.Native.Nat.{_≤_};
 ghost use lib.ListN.{length};
+ghost use Rattle.definitions.specs.Book as Book;
 ghost use Rattle.definitions.specs.Answer.{given, written, historyBytes};
 ghost use Rattle.definitions.specs.Compare.{comparison, compareRefusal, compareAnswer, compareBuffer};
 ghost use Rattle.compare.specs.Answer.{comparedAnswer};
-ghost use Rattle.pairs.specs.Search.{Traced, differenceAt, spotted, Writable};
+ghost use Rattle.pairs.specs.Search.{Ready, Traced, differenceAt, spotted, Writable};
 use book::same_frame;
 use book::states;
 use book::width;
@@ -55,27 +56,63 @@ fn refused_by(first: &[u8], second: &[u8], history: &[u8]) -> usize
     0
 }
 
-// Two books that no row turns down.
+// Two books that no row turns down. Small arrays do for books of few states, and are sooner cleared.
 fn compare_passed(first: &[u8], second: &[u8], history: &mut [u8]) -> Compared
     requires { ⌜ compareRefusal (now first) (now second) (now history) ≡ 0 ⌝ }
     ensures { λ r. ⌜ comparedAnswer r (now (history .exit)) ≡ given (comparison (now (first .entry)) (now (second .entry))) ⌝ }
     ensures { λ r. ⌜ now (history .exit) ≡ written (historyBytes (comparison (now (first .entry)) (now (second .entry)))) (now (history .entry)) ⌝ }
 {
+    let numbers = states(first) + states(second) + 2;
+    if numbers <= 32 {
+        let mut pairs = [0u8; 64];
+        let mut trail = [0u8; 64];
+        let mut label = [0u8; 32];
+        return compare_in(
+            first,
+            second,
+            &mut pairs,
+            &mut trail,
+            &mut label[..numbers],
+            history,
+        );
+    }
     let mut pairs = [0u8; 512];
     let mut trail = [0u8; 512];
     let mut label = [0u8; 256];
-    let n = states(first);
-    let numbers = n + states(second) + 2;
+    compare_in(
+        first,
+        second,
+        &mut pairs,
+        &mut trail,
+        &mut label[..numbers],
+        history,
+    )
+}
+
+// The same with arrays that have room for the search.
+fn compare_in(
+    first: &[u8],
+    second: &[u8],
+    pairs: &mut [u8],
+    trail: &mut [u8],
+    label: &mut [u8],
+    history: &mut [u8],
+) -> Compared
+    requires { ⌜ Ready (now first) (now second) (Book.width (now first)) (Book.states (now first)) (now pairs) (now trail) (now label) ⌝ }
+    requires { ⌜ 256 ≤ length (now history) ⌝ }
+    ensures { λ r. ⌜ comparedAnswer r (now (history .exit)) ≡ given (comparison (now (first .entry)) (now (second .entry))) ⌝ }
+    ensures { λ r. ⌜ now (history .exit) ≡ written (historyBytes (comparison (now (first .entry)) (now (second .entry)))) (now (history .entry)) ⌝ }
+{
     let spot = first_difference(
         first,
         second,
         width(first),
-        n,
-        &mut pairs,
-        &mut trail,
-        &mut label[..numbers],
+        states(first),
+        pairs,
+        trail,
+        label,
     );
-    told(spot, &trail, history)
+    told(spot, trail, history)
 }
 
 // The answer for what the search found.

@@ -1,4 +1,3 @@
 -- Laws that belong to no one function.
-pub mod Filling
 pub mod Labelling
 pub mod Reading

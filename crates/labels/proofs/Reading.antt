@@ -82,6 +82,8 @@ module _ (one other : List ℕ) (w base : ℕ) (label : List ℕ) (R : Rows one 
   pub none-alike : (k : ℕ) → getD one k 0 ≡ 0 → getD other k 0 ≡ 0 → Alike one other base label k
   none-alike k ex ey = rw (ex, ey) (R .none)
 
-  pub eight-alike : (k : ℕ) → wordAt one k ≡ 0 → wordAt other k ≡ 0 → FirstFailing (Alike one other base label) k (k + 8) (k + 8)
-  eight-alike k ex ey = fails-nowhere (Alike one other base label) k (k + 8) (omega arith)
-      (λ j h b. none-alike j (word-zero one k ex j h b) (word-zero other k ey j h b))
+  -- and so where a word of either row is 0, at each place of a part of it
+  pub zeros-alike : (at : ℕ) → wordAt one at ≡ 0 → wordAt other at ≡ 0 → (k end : ℕ) → at ≤ k → k ≤ end → end ≤ at + 8
+      → FirstFailing (Alike one other base label) k end end
+  zeros-alike at ex ey k end low l high = fails-nowhere (Alike one other base label) k end l
+      (λ j h b. none-alike j (word-zero one at ex j (omega arith) (omega arith)) (word-zero other at ey j (omega arith) (omega arith)))

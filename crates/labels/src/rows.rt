@@ -71,6 +71,29 @@ fn unlike_of_eight(
     unlike_before(one, other, width, base, label, k, k + 8)
 }
 
+// The same for the places from k on, fewer than eight. Where the last eight entries are all 0 they are passed over at once.
+fn unlike_of_rest(
+    one: &[u8],
+    other: &[u8],
+    width: usize,
+    base: usize,
+    label: &[u8],
+    k: usize,
+) -> usize
+    requires { ⌜ Rows (now one) (now other) width base (now label) ⌝ }
+    requires { ⌜ (k ≤ width) × (width < k + 8) × (width ≤ 136) ⌝ }
+    ensures { λ r. ⌜ FirstFailing (Alike (now (one .entry)) (now (other .entry)) base (now (label .entry))) k width r ⌝ }
+{
+    if 8 <= width {
+        if word(one, width - 8) == 0 {
+            if word(other, width - 8) == 0 {
+                return width;
+            }
+        }
+    }
+    unlike_before(one, other, width, base, label, k, width)
+}
+
 // The first place from `from` on at which the labels are two; the width if there is none.
 pub fn first_unlike(
     one: &[u8],
@@ -92,5 +115,5 @@ pub fn first_unlike(
         }
         k += 8;
     }
-    unlike_before(one, other, width, base, label, k, width)
+    unlike_of_rest(one, other, width, base, label, k)
 }

@@ -158,7 +158,7 @@ module _ (b d : List ℕ) (w n m i c : ℕ) (pairs trail label : List ℕ) (S : 
       books = books;
       left = left-state i l;
       right = right-state i l;
-      place = omega (arith, few-pairs, S .ready .roomPairs, books .statesFirst, books .first .layout .statesMost, books .second .layout .statesMost);
+      place = omega (arith, few-pairs, S .ready .roomPairs);
       roomLabel = S .ready .roomLabel;
       none = S .labels .zero ∙ sym (S .labels .next);
     }
@@ -185,7 +185,7 @@ module _ (b d : List ℕ) (w n m i c : ℕ) (pairs trail label : List ℕ) (S : 
         writable = record {
           falls = λ j h. S .search .queue .falls j (omega arith);
           few = omega (arith, few-pairs, books .statesFirst, books .first .layout .statesMost, books .second .layout .statesMost);
-          roomTrail = S .ready .roomTrail;
+          roomTrail = omega (arith, few-pairs, S .ready .roomTrail);
           byte = omega (arith, books .widthFirst, books .first .layout .eventsMost, books .first .layout .requestsMost);
         };
       }
@@ -264,14 +264,11 @@ module _ (b d : List ℕ) (w n m i c : ℕ) (pairs trail label : List ℕ) (S : 
               (moved-merged (n + 1 + states d) x (n + 1 + y) (labelAt label (n + 1 + y)) (labelAt label x) label (S .ready .roomLabel) refl refl));
         })
           where
-            few : m ≤ 254
-            few = omega (arith, few-pairs, books .statesFirst, books .first .layout .statesMost, books .second .layout .statesMost)
-
             room-pairs : 2 * m + 1 < length pairs
-            room-pairs = omega (arith, few, S .ready .roomPairs)
+            room-pairs = omega (arith, few-pairs, S .ready .roomPairs)
 
             room-trail : 2 * m + 1 < length trail
-            room-trail = omega (arith, few, S .ready .roomTrail)
+            room-trail = omega (arith, few-pairs, S .ready .roomTrail)
 
 -- codes that lead to one label are passed over
 module _ (b d : List ℕ) (w n m i : ℕ) (pairs trail label : List ℕ) (l : i < m) where

@@ -30,8 +30,8 @@ pub record Books (b d : List ℕ) (w n : ℕ) : Type 0 where
 -- n + 1 + y; 0 and n + 1 stand for no state
 pub record Ready (b d : List ℕ) (w n : ℕ) (pairs trail label : List ℕ) : Type 0 where
   pub books : Books b d w n
-  pub roomPairs : 512 ≤ length pairs
-  pub roomTrail : 512 ≤ length trail
+  pub roomPairs : 2 * (n + 1 + states d) ≤ length pairs
+  pub roomTrail : 2 * (n + 1 + states d) ≤ length trail
   pub roomLabel : n + 1 + states d < length label
   pub bytes : length label ≤ 256
 
@@ -66,7 +66,7 @@ AlikeBy b d n i pairs label c = labelAt label (entry b (firstAt pairs i) c) ≡ 
 pub record Traced (i c : ℕ) (trail : List ℕ) : Type 0 where
   pub falls : Falls (suc i) (firstAt trail)
   pub few : i < 255
-  pub roomTrail : 512 ≤ length trail
+  pub roomTrail : 2 * i + 1 < length trail
   pub byte : c < 256
 
 -- that history, with the code

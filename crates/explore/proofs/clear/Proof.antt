@@ -1,5 +1,5 @@
 -- `clear` meets its contract: the sets passed so far are empty.
-use Rattle.explore.proofs.Rows.{Filling, filling-begun, filling-length, filling-turn, filling-done}
+use Rattle.automaton.proofs.Filling.{Filled, filled-begun, filled-turn, filled-done}
 use Rattle.explore.specs.Images.{noSet}
 use lib.ListN.{length, length-set}
 use native.Mathlib.Omega.{arith}
@@ -10,13 +10,13 @@ use Rattle.explore.proofs.clear.Statement.{statement}
 use Rattle.explore.proofs.clear.Tie as tie
 
 abbrev Inv-loop : tie.InvT-loop
-Inv-loop next₀ c₀ next c = Filling noSet next₀ next c
+Inv-loop next₀ c₀ next c = Filled noSet next₀ c next
 
 abbrev μ-loop : tie.MeasureT-loop
 μ-loop next₀ c₀ next c = length next - c
 
 loop-holds : tie.Need-loop-holds Inv-loop μ-loop
-loop-holds c = filling-begun _ _
+loop-holds c = filled-begun _ _
 
 mul-next : tie.Need-mul-next Inv-loop μ-loop
 mul-next c = search needs
@@ -31,13 +31,13 @@ loop-less : tie.Need-loop-less Inv-loop μ-loop
 loop-less c = simp length-set (omega arith)
 
 loop-again : tie.Need-loop-again Inv-loop μ-loop
-loop-again c = filling-turn (c .before .loop .inv) (c .loop-test .taken) refl
+loop-again c = filled-turn (c .before .loop .inv) (omega (arith, c .before .loop .inv .long)) refl
 
 same-length : tie.Need-same-length Inv-loop μ-loop
-same-length c = filling-length (c .before .loop .inv)
+same-length c = c .before .loop .inv .long
 
 returns : tie.Need-returns Inv-loop μ-loop
-returns c = filling-done (c .before .loop .inv) (c .loop-test .left)
+returns c = filled-done (c .before .loop .inv) (omega (arith, c .before .loop .inv .long))
 
 pub clear-spec : {M : Type 1} → statement M
 clear-spec =

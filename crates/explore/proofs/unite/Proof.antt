@@ -1,23 +1,23 @@
 -- `unite` meets its contract: the sets passed so far are united.
-use Rattle.explore.proofs.Rows.{Filling, filling-begun, filling-length, filling-next, filling-turn, filling-done}
+use Rattle.automaton.proofs.Filling.{Filled, filled-begun, filled-next, filled-turn, filled-done}
 use Rattle.explore.specs.Images.{unionAt}
 use lib.ListN.{length, getD, length-set}
 use lib.Bits.{bitOr}
 use native.Mathlib.Omega.{arith}
-use Prim.Native.Nat.{ℕ, _-_}
+use Prim.Native.Nat.{ℕ, _-_, _<_}
 use mathlib.Core.Path.{ap}
 use borrow.Author.Needs.{needs}
 use Rattle.explore.proofs.unite.Statement.{statement}
 use Rattle.explore.proofs.unite.Tie as tie
 
 abbrev Inv-loop : tie.InvT-loop
-Inv-loop next₀ more c₀ next c = Filling (unionAt next₀ more) next₀ next c
+Inv-loop next₀ more c₀ next c = Filled (unionAt next₀ more) next₀ c next
 
 abbrev μ-loop : tie.MeasureT-loop
 μ-loop next₀ more c₀ next c = length next - c
 
 loop-holds : tie.Need-loop-holds Inv-loop μ-loop
-loop-holds c = filling-begun _ _
+loop-holds c = filled-begun _ _
 
 mul-next : tie.Need-mul-next Inv-loop μ-loop
 mul-next c = search needs
@@ -29,7 +29,7 @@ mul-next-2 : tie.Need-mul-next-2 Inv-loop μ-loop
 mul-next-2 c = search needs
 
 shared-slice-read-next : tie.Need-shared-slice-read-next Inv-loop μ-loop
-shared-slice-read-next c = omega (arith, filling-length (c .before .before .before .loop .inv))
+shared-slice-read-next c = omega (arith, c .before .before .before .loop .inv .long)
 
 mul-next-3 : tie.Need-mul-next-3 Inv-loop μ-loop
 mul-next-3 c = search needs
@@ -47,13 +47,14 @@ loop-again : tie.Need-loop-again Inv-loop μ-loop
 loop-again c =
     let l = c .before .before .before .loop in
     let more = c .before .before .before .before .args .more .now in
-    filling-turn (l .inv) (c .before .before .loop-test .taken) (ap (λ (old : ℕ). bitOr old (getD more (l .c) 0)) (filling-next (l .inv)))
+    let room : l .c < length (c .before .before .before .before .args .next .now) = omega (arith, l .inv .long) in
+    filled-turn (l .inv) room (ap (λ (old : ℕ). bitOr old (getD more (l .c) 0)) (filled-next (l .inv) room))
 
 same-length : tie.Need-same-length Inv-loop μ-loop
-same-length c = filling-length (c .before .loop .inv)
+same-length c = c .before .loop .inv .long
 
 returns : tie.Need-returns Inv-loop μ-loop
-returns c = filling-done (c .before .loop .inv) (c .loop-test .left)
+returns c = filled-done (c .before .loop .inv) (omega (arith, c .before .loop .inv .long))
 
 pub unite-spec : {M : Type 1} → statement M
 unite-spec =

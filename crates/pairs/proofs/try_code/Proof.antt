@@ -93,7 +93,7 @@ cast-put-2 : tie.Need-cast-put-2
 cast-put-2 c = let o = c .before .before .before in omega (arith, y-low o, books o .second .layout .statesMost)
 
 put-requires : tie.Need-put-requires
-put-requires c κs = search needs
+put-requires c κs = let o = c .before .before .before in omega (arith, few-pairs _ _ _ _ _ _ _ _ _ _ (start o .pre .0), start o .pre .0 .ready .roomPairs)
 
 cast-put-3 : tie.Need-cast-put-3
 cast-put-3 c = search needs
@@ -102,7 +102,7 @@ cast-put-4 : tie.Need-cast-put-4
 cast-put-4 c = search needs
 
 put-requires-2 : tie.Need-put-requires-2
-put-requires-2 c κs = search needs
+put-requires-2 c κs = let o = c .before .before .before .before .before .before .before in omega (arith, few-pairs _ _ _ _ _ _ _ _ _ _ (start o .pre .0), start o .pre .0 .ready .roomTrail)
 
 slice-read-to : tie.Need-slice-read-to
 slice-read-to c = let o = c .before .before .before .before .before .before .before .before .before .before .before in omega (arith, x-low o, start o .pre .0 .ready)

@@ -4,7 +4,7 @@ use native.Mathlib.Omega.{arith}
 use mathlib.Core.Path.{refl}
 use lib.ListN.{length}
 use Rattle.labels.specs.Labels.{itself}
-use Rattle.labels.proofs.Filling.{Filled, filled-begun, filled-turn, filled-done}
+use Rattle.automaton.proofs.Filling.{Filled, filled-begun, filled-turn, filled-done}
 use borrow.Author.Needs.{needs}
 use Rattle.labels.proofs.classes.own_labels.Statement.{statement}
 use Rattle.labels.proofs.classes.own_labels.Tie as tie
@@ -31,13 +31,13 @@ loop-less : tie.Need-loop-less Inv-loop μ-loop
 loop-less c = search needs
 
 loop-again : tie.Need-loop-again Inv-loop μ-loop
-loop-again c = filled-turn itself _ _ _ (c .before .loop .inv) (omega arith) _ refl
+loop-again c = filled-turn (c .before .loop .inv) (omega arith) refl
 
 same-length : tie.Need-same-length Inv-loop μ-loop
 same-length c = search needs
 
 returns : tie.Need-returns Inv-loop μ-loop
-returns c = filled-done itself _ _ _ (c .before .loop .inv) (omega arith)
+returns c = filled-done (c .before .loop .inv) (omega arith)
 
 pub own-labels-spec : {M : Type 1} → statement M
 own-labels-spec =

@@ -4,7 +4,7 @@ use native.Mathlib.Omega.{arith}
 use mathlib.Core.Path.{ap, _∙_}
 use lib.ListN.{length}
 use Rattle.labels.specs.Labels.{moved}
-use Rattle.labels.proofs.Filling.{Filled, elsewhere, filled-begun, filled-read, filled-turn, filled-done, map-below}
+use Rattle.automaton.proofs.Filling.{Filled, elsewhere, filled-begun, filled-next, filled-turn, filled-done, map-below}
 use borrow.Author.Needs.{needs}
 use Rattle.labels.proofs.classes.relabel.Statement.{statement}
 use Rattle.labels.proofs.classes.relabel.Tie as tie
@@ -37,7 +37,7 @@ loop-again : tie.Need-loop-again Inv-loop μ-loop
 loop-again c =
     let S = c .before .before .before .loop .inv in
     let a = c .before .before .before .before .before .args in
-    filled-turn _ _ _ _ S (omega arith) _ (c .moved .ensures ∙ ap (moved (a .from) (a .to)) (filled-read _ _ _ _ S (omega arith)))
+    filled-turn S (omega arith) (c .moved .ensures ∙ ap (moved (a .from) (a .to)) (filled-next S (omega arith)))
 
 same-length : tie.Need-same-length Inv-loop μ-loop
 same-length c = search needs
@@ -45,7 +45,7 @@ same-length c = search needs
 returns : tie.Need-returns Inv-loop μ-loop
 returns c =
     let a = c .before .before .before .args in
-    filled-done _ _ _ _ (c .before .loop .inv) (omega arith) ∙ map-below (moved (a .from) (a .to)) (a .label .now)
+    filled-done (c .before .loop .inv) (omega arith) ∙ map-below (moved (a .from) (a .to)) (a .label .now)
 
 pub relabel-spec : {M : Type 1} → statement M
 relabel-spec =

@@ -41,13 +41,13 @@ loop-again c =
     let l = c .before .before .before .loop in
     (omega arith, omega arith, through _ _ _ _ (l .inv .2) (whole-part _ _ _ _ (λ b. omega arith) (c .before .unlike-of-eight .ensures)))
 
-unlike-before-requires : tie.Need-unlike-before-requires Inv-loop μ-loop
-unlike-before-requires c κs = search needs
+unlike-of-rest-requires : tie.Need-unlike-of-rest-requires Inv-loop μ-loop
+unlike-of-rest-requires c κs = search needs
 
 returns-2 : tie.Need-returns-2 Inv-loop μ-loop
 returns-2 c =
     let l = c .before .before .loop in
-    fails-later _ _ _ _ _ (l .inv .0) (l .inv .2) (c .unlike-before .ensures)
+    fails-later _ _ _ _ _ (l .inv .0) (l .inv .2) (c .unlike-of-rest .ensures)
 
 pub first-unlike-spec : {M : Type 1} → statement M
 first-unlike-spec =
@@ -63,5 +63,5 @@ first-unlike-spec =
     add-k
     loop-less
     loop-again
-    unlike-before-requires
+    unlike-of-rest-requires
     returns-2)

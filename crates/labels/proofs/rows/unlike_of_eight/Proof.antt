@@ -1,6 +1,7 @@
 -- `unlike_of_eight` meets its contract.
 use mathlib.Core.Path.{sym, _∙_}
-use Rattle.labels.proofs.Reading.{eight-alike}
+use native.Mathlib.Omega.{arith}
+use Rattle.labels.proofs.Reading.{zeros-alike}
 use borrow.Author.Needs.{needs}
 use Rattle.labels.proofs.rows.unlike_of_eight.Statement.{statement}
 use Rattle.labels.proofs.rows.unlike_of_eight.Tie as tie
@@ -15,7 +16,9 @@ add-result : tie.Need-add-result
 add-result c = search needs
 
 returns : tie.Need-returns
-returns c = eight-alike _ _ _ _ _ (c .before .before .before .before .before .before .before .pre .0) _ (sym (c .before .before .before .word .ensures) ∙ c .before .before .if1 .taken) (sym (c .before .word2 .ensures) ∙ c .if2 .taken)
+returns c =
+    let p = c .before .before .before .before .before .before .before in
+    zeros-alike _ _ _ _ _ (p .pre .0) (p .args .k) (sym (c .before .before .before .word .ensures) ∙ c .before .before .if1 .taken) (sym (c .before .word2 .ensures) ∙ c .if2 .taken) _ _ (omega arith) (omega arith) (omega arith)
 
 add-unlike-before : tie.Need-add-unlike-before
 add-unlike-before c = search needs

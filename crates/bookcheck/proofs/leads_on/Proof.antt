@@ -1,4 +1,4 @@
--- `row_leads_on` meets its contract: the entries passed so far are states.
+-- `leads_on` meets its contract: the entries passed so far are states.
 use Prim.Native.Nat.{_+_, _-_, _≤_}
 use mathlib.Core.Path.{_≡_, refl, sym}
 use mathlib.Core.Bool.{true}
@@ -9,8 +9,8 @@ use Rattle.automaton.specs.Below.{allBelow}
 use Rattle.definitions.specs.Bytes.{byte}
 use Rattle.bookcheck.specs.Entries.{leadsOn}
 use Rattle.automaton.proofs.Loops.{all-more, all-fails}
-use Rattle.bookcheck.proofs.row_leads_on.Statement.{statement}
-use Rattle.bookcheck.proofs.row_leads_on.Tie as tie
+use Rattle.bookcheck.proofs.leads_on.Statement.{statement}
+use Rattle.bookcheck.proofs.leads_on.Tie as tie
 
 abbrev Inv-loop : tie.InvT-loop
 Inv-loop book at e c₀ c = (c ≤ e) × (allBelow c (leadsOn book at) ≡ true)
@@ -51,8 +51,8 @@ returns-2 c =
     let e : l .c ≡ c .before .before .args .e = omega arith in
     sym (rw e at (l .inv .1))
 
-pub row-leads-on-spec : {M : Type 1} → statement M
-row-leads-on-spec =
+pub leads-on-spec : {M : Type 1} → statement M
+leads-on-spec =
     tie.close
     (tie.spec
     Inv-loop

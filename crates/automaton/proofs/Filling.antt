@@ -1,4 +1,4 @@
--- A list that is filled from its front, place i with f i: what holds on the way.
+-- A list that is filled in place from its front, place i with f i: what holds on the way.
 use mathlib.Core.Path.{_≡_, refl, ap, sym, _∙_}
 use mathlib.Core.List.{List, _∷_, _++_, map, append-nil}
 use Prim.Native.Nat.{ℕ, suc, _+_, _≤_, _<_}
@@ -19,29 +19,28 @@ pub record Filled (f : ℕ → ℕ) (old : List ℕ) (i : ℕ) (l : List ℕ) : 
 pub filled-begun : (f : ℕ → ℕ) (old : List ℕ) → Filled f old 0 old
 filled-begun f old = record { within = omega arith; long = refl; is = refl }
 
-module _ (f : ℕ → ℕ) (old : List ℕ) (i : ℕ) (l : List ℕ) (S : Filled f old i l) where
+module _ {f : ℕ → ℕ} {old l : List ℕ} {i : ℕ} (now : Filled f old i l) where
   pub filled-done : length old ≤ i → l ≡ listBelow (length old) f
   filled-done b =
-      let all : i ≡ length old = omega (arith, S .within) in
-      S .is ∙ rw (drop-of-length-le old {i = i} b, append-nil, all)
+      let all : i ≡ length old = omega (arith, now .within) in
+      now .is ∙ rw (drop-of-length-le old {i = i} b, append-nil, all)
 
-  module _ (b : i < length old) where
-    next : l ≡ listBelow i f ++ (getD old i 0 ∷ drop (suc i) old)
-    next = S .is ∙ rw (drop-cons old i 0 b)
+  seam : i < length old → l ≡ listBelow i f ++ (getD old i 0 ∷ drop (suc i) old)
+  seam b = now .is ∙ rw (drop-cons old i 0 b)
 
-    -- what is still to be filled
-    pub filled-read : getD l i 0 ≡ getD old i 0
-    filled-read = rw next (getD-at (listBelow i f) (getD old i 0) (drop (suc i) old) 0 i (length-list-below f i))
+  -- the next number is still the old one
+  pub filled-next : i < length old → getD l i 0 ≡ getD old i 0
+  filled-next b = rw (seam b) (getD-at (listBelow i f) (getD old i 0) (drop (suc i) old) 0 i (length-list-below f i))
 
-    pub filled-turn : (x : ℕ) → x ≡ f i → Filled f old (i + 1) (set l i x)
-    filled-turn x e = rw add-one (record {
-      within = b;
-      long = length-set l i x ∙ S .long;
-      is =
-          ap (λ (k : List ℕ). set k i x) next
-          ∙ (set-at (listBelow i f) (getD old i 0) (drop (suc i) old) x i (length-list-below f i)
-          ∙ rw e (sym (append-snoc (listBelow i f) (f i) (drop (suc i) old))));
-    })
+  pub filled-turn : {x : ℕ} → i < length old → x ≡ f i → Filled f old (i + 1) (set l i x)
+  filled-turn {x} b e = rw add-one (record {
+    within = b;
+    long = length-set l i x ∙ now .long;
+    is =
+        ap (λ (k : List ℕ). set k i x) (seam b)
+        ∙ (set-at (listBelow i f) (getD old i 0) (drop (suc i) old) x i (length-list-below f i)
+        ∙ rw e (sym (append-snoc (listBelow i f) (f i) (drop (suc i) old))));
+  })
 
 -- a function applied to each element of a list, place by place
 module _ (g : ℕ → ℕ) where
