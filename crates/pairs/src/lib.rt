@@ -121,14 +121,18 @@ fn try_codes(
     ensures { λ r. ⌜ Outcome (now (first .entry)) (now (second .entry)) width n i width (now (pairs .exit)) (now (trail .exit)) (now (label .exit)) r ⌝ }
 {
     let mut count = m;
-    let mut c = next_code(first, second, width, n, i, 0, pairs, label);
+    let mut c = 0;
     while c < width {
-        let tried = try_code(first, second, width, n, count, i, c, pairs, trail, label);
+        let next = next_code(first, second, width, n, i, c, pairs, label);
+        if next == width {
+            return Tried::Pairs(count);
+        }
+        let tried = try_code(first, second, width, n, count, i, next, pairs, trail, label);
         match tried {
             Tried::Parts(code) => return Tried::Parts(code),
             Tried::Pairs(more) => count = more,
         }
-        c = next_code(first, second, width, n, i, c + 1, pairs, label);
+        c = next + 1;
     }
     Tried::Pairs(count)
 }

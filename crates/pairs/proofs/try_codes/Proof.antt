@@ -1,8 +1,9 @@
--- `try_codes` meets its contract: the search has come to code c of pair i, the first that is still to be looked at.
+-- `try_codes` meets its contract: the search has come to code c of pair i.
 use mathlib.Core.Path.{_≡_, refl}
-use Prim.Native.Nat.{_-_, _≤_, _<_}
+use Prim.Native.Nat.{ℕ, _-_, _≤_, _<_}
 use native.Mathlib.Omega.{arith}
-use Rattle.pairs.specs.Search.{Searching, AlikeBy}
+use denote.Ref.{now}
+use Rattle.pairs.specs.Search.{Searching}
 use Rattle.pairs.proofs.Searching.{Kept, readable, passed-over}
 use borrow.Author.Needs.{needs}
 use Rattle.pairs.proofs.try_codes.Statement.{statement}
@@ -13,25 +14,33 @@ Inv-loop first second width n m i pairs₀ trail₀ label₀ count₀ c₀ pairs
     Searching first second width n count i c pairs trail label
     × (i < count)
     × (c ≤ width)
-    × (c < width → AlikeBy first second n i pairs label c → ⊥)
     × Kept pairs₀ trail₀ label₀ pairs trail label
 
 abbrev μ-loop : tie.MeasureT-loop
 μ-loop first second width n m i pairs₀ trail₀ label₀ count₀ c₀ pairs trail label count c = width - c
 
-next-code-requires : tie.Need-next-code-requires Inv-loop μ-loop
-next-code-requires c κs = (readable _ _ _ _ _ _ _ _ _ _ (c .before .before .before .before .before .before .before .pre .0) (c .before .before .before .before .before .before .before .pre .1), omega arith)
-
 loop-holds : tie.Need-loop-holds Inv-loop μ-loop
 loop-holds c =
-    let found = c .next-code .ensures in
-    (passed-over _ _ _ _ _ _ _ _ _ (c .before .before .before .before .before .before .before .before .pre .1) _ _ (c .before .before .before .before .before .before .before .before .pre .0) found, c .before .before .before .before .before .before .before .before .pre .1, found .most, found .fails, record { samePairs = refl; sameTrail = refl; sameLabel = refl })
+    let pre = c .before .before .before .before .before .pre in
+    (pre .0, pre .1, omega arith, record { samePairs = refl; sameTrail = refl; sameLabel = refl })
 
-try-code-requires : tie.Need-try-code-requires Inv-loop μ-loop
-try-code-requires c κs = let inv = c .before .before .before .before .loop .inv in (inv .0, ((inv .1, c .before .before .before .loop-test .taken), inv .3 (c .before .before .before .loop-test .taken)))
+next-code-requires : tie.Need-next-code-requires Inv-loop μ-loop
+next-code-requires c κs =
+    let inv = c .before .before .before .loop .inv in
+    (readable _ _ _ _ _ _ _ _ _ _ (inv .0) (inv .1), inv .2)
 
-enum-known-tried : tie.Need-enum-known-tried Inv-loop μ-loop
-enum-known-tried c = search needs
+-- the codes before the one found are passed over
+module _ (c : tie.After-next-code Inv-loop μ-loop) where
+  abbrev here : tie.At-loop Inv-loop μ-loop
+  here = c .before .before .before .before
+
+  abbrev start : tie.Start Inv-loop μ-loop
+  start = here .before .before .before .before .before .before
+
+  come : (k : ℕ) → c .next-code .result ≡ k
+      → Searching (now (start .args .first)) (now (start .args .second)) (start .args .width) (start .args .n) (here .loop .count) (start .args .i) k
+      (here .loop .pairs) (here .loop .trail) (here .loop .label)
+  come k e = rw (← e) (passed-over _ _ _ _ _ _ _ _ _ (here .loop .inv .1) _ _ (here .loop .inv .0) (c .next-code .ensures))
 
 same-length : tie.Need-same-length Inv-loop μ-loop
 same-length c = search needs
@@ -43,27 +52,17 @@ same-length-3 : tie.Need-same-length-3 Inv-loop μ-loop
 same-length-3 c = search needs
 
 returns : tie.Need-returns Inv-loop μ-loop
-returns c = rw (c .before .tried .given .1) at (c .before .before .before .before .before .before .before .before .before .try-code .ensures)
+returns c = (come (c .before) _ (c .if1 .taken), here (c .before) .loop .inv .1)
 
-enum-known-tried-2 : tie.Need-enum-known-tried-2 Inv-loop μ-loop
-enum-known-tried-2 c = search needs
+try-code-requires : tie.Need-try-code-requires Inv-loop μ-loop
+try-code-requires c κs =
+    let o = c .before .before .before .before in
+    let found = o .next-code .ensures in
+    let within : o .next-code .result < start o .args .width = omega (arith, found .most, c .before .before .before .if1 .left) in
+    (come o _ refl, ((here o .loop .inv .1, within), found .fails within))
 
-add-next-code : tie.Need-add-next-code Inv-loop μ-loop
-add-next-code c = search needs
-
-next-code-requires-2 : tie.Need-next-code-requires-2 Inv-loop μ-loop
-next-code-requires-2 c κs =
-    let next = rw (c .before .before .before .tried2 .given .1) at (c .before .before .before .before .before .before .before .before .before .before .before .try-code .ensures) in
-    (readable _ _ _ _ _ _ _ _ _ _ (next .0) (next .1), omega (arith, c .before .before .before .before .before .before .before .before .before .before .before .before .before .before .before .loop-test .taken))
-
-loop-less : tie.Need-loop-less Inv-loop μ-loop
-loop-less c = omega (arith, c .next-code2 .ensures .least, c .before .before .before .before .before .before .before .before .before .before .before .before .before .before .before .before .loop-test .taken)
-
-loop-again : tie.Need-loop-again Inv-loop μ-loop
-loop-again c =
-    let next = rw (c .before .before .before .before .tried2 .given .1) at (c .before .before .before .before .before .before .before .before .before .before .before .before .try-code .ensures) in
-    let found = c .next-code2 .ensures in
-    (passed-over _ _ _ _ _ _ _ _ _ (next .1) _ _ (next .0) found, next .1, found .most, found .fails, search needs)
+enum-known-tried : tie.Need-enum-known-tried Inv-loop μ-loop
+enum-known-tried c = search needs
 
 same-length-4 : tie.Need-same-length-4 Inv-loop μ-loop
 same-length-4 c = search needs
@@ -75,9 +74,39 @@ same-length-6 : tie.Need-same-length-6 Inv-loop μ-loop
 same-length-6 c = search needs
 
 returns-2 : tie.Need-returns-2 Inv-loop μ-loop
-returns-2 c =
+returns-2 c = rw (c .before .tried .given .1) at (c .before .before .before .before .before .before .before .before .before .try-code .ensures)
+
+enum-known-tried-2 : tie.Need-enum-known-tried-2 Inv-loop μ-loop
+enum-known-tried-2 c = search needs
+
+-- a code was found, and the next is still one at most the width
+within-again : (c : tie.After-known-told2 Inv-loop μ-loop) → c .before .before .before .before .before .before .before .before .before .before .before .before .before .before .next-code .result < start (c .before .before .before .before .before .before .before .before .before .before .before .before .before .before) .args .width
+within-again c = let o = c .before .before .before .before .before .before .before .before .before .before .before .before .before .before in omega (arith, o .next-code .ensures .most, c .before .before .before .before .before .before .before .before .before .before .before .before .before .if1 .left)
+
+add-c : tie.Need-add-c Inv-loop μ-loop
+add-c c = omega (arith, within-again c)
+
+loop-less : tie.Need-loop-less Inv-loop μ-loop
+loop-less c = omega (arith, within-again c, c .before .before .before .before .before .before .before .before .before .before .before .before .before .before .next-code .ensures .least)
+
+loop-again : tie.Need-loop-again Inv-loop μ-loop
+loop-again c =
+    let next = rw (c .before .tried2 .given .1) at (c .before .before .before .before .before .before .before .before .before .try-code .ensures) in
+    (next .0, next .1, omega (arith, within-again c), search needs)
+
+same-length-7 : tie.Need-same-length-7 Inv-loop μ-loop
+same-length-7 c = search needs
+
+same-length-8 : tie.Need-same-length-8 Inv-loop μ-loop
+same-length-8 c = search needs
+
+same-length-9 : tie.Need-same-length-9 Inv-loop μ-loop
+same-length-9 c = search needs
+
+returns-3 : tie.Need-returns-3 Inv-loop μ-loop
+returns-3 c =
     let inv = c .before .loop .inv in
-    let end : c .before .loop .c ≡ c .before .before .before .before .before .before .before .before .before .before .args .width = omega (arith, inv .2) in
+    let end : c .before .loop .c ≡ c .before .before .before .before .before .before .before .args .width = omega (arith, inv .2) in
     (rw end at (inv .0), inv .1)
 
 pub try-codes-spec : {M : Type 1} → statement M
@@ -86,20 +115,23 @@ try-codes-spec =
     (tie.spec
     Inv-loop
     μ-loop
-    next-code-requires
     loop-holds
-    try-code-requires
-    enum-known-tried
+    next-code-requires
     same-length
     same-length-2
     same-length-3
     returns
-    enum-known-tried-2
-    add-next-code
-    next-code-requires-2
-    loop-less
-    loop-again
+    try-code-requires
+    enum-known-tried
     same-length-4
     same-length-5
     same-length-6
-    returns-2)
+    returns-2
+    enum-known-tried-2
+    add-c
+    loop-less
+    loop-again
+    same-length-7
+    same-length-8
+    same-length-9
+    returns-3)
