@@ -1,10 +1,11 @@
 -- The states of a book that a search finds, each with a history, and the arrays that hold them.
 use mathlib.Core.Path.{_≡_}
+use mathlib.Core.Bool.{cond}
 use mathlib.Core.List.{List}
-use Prim.Native.Nat.{ℕ, _≤_, _<_}
+use Prim.Native.Nat.{ℕ, zero, suc, _≤_, _<_}
 use lib.ListN.{length}
 use Rattle.automaton.specs.Below.{listBelow}
-use Rattle.automaton.specs.Machine.{Machine}
+use Rattle.automaton.specs.Machine.{Machine, isState}
 use Rattle.automaton.specs.Explore.{Reached, numberIn, reached}
 use Rattle.automaton.proofs.Parents.{Falls}
 use Rattle.definitions.specs.Bytes.{byte}
@@ -27,13 +28,18 @@ reachedAt order trail k = record { state = byte order k; history = historyAt tra
 unfoldable pub foundIn : ℕ → List ℕ → List ℕ → List Reached
 foundIn n order trail = listBelow n (reachedAt order trail)
 
--- n states are found: there is room for 128, each but the first follows an earlier one, and the third array has the number of each state
-pub record Searching (n : ℕ) (order trail numbers : List ℕ) : Type 0 where
+-- 1 for a state that is found, and for 0, which is no state
+abbrev pub markOf : List Reached → ℕ → ℕ
+markOf found zero = 1
+markOf found (suc s) = cond (isState (numberIn found (suc s))) 1 0
+
+-- n states are found: there is room for 128, each but the first follows an earlier one, and the third array has the mark of each state
+pub record Searching (n : ℕ) (order trail marks : List ℕ) : Type 0 where
   pub roomOrder : 128 ≤ length order
   pub roomTrail : 256 ≤ length trail
-  pub roomNumbers : 128 ≤ length numbers
+  pub roomMarks : 128 ≤ length marks
   pub falls : Falls n (firstAt trail)
-  pub numbered : (s : ℕ) → s < 128 → byte numbers s ≡ numberIn (foundIn n order trail) s
+  pub marked : (s : ℕ) → s < 128 → byte marks s ≡ markOf (foundIn n order trail) s
 
 -- the first n places hold the states of a list, each with its history
 pub record Holds (found : List Reached) (n : ℕ) (order trail : List ℕ) : Type 0 where

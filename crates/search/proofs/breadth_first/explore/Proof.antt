@@ -15,12 +15,12 @@ use Rattle.search.proofs.breadth_first.explore.Statement.{statement}
 use Rattle.search.proofs.breadth_first.explore.Tie as tie
 
 abbrev Inv-loop : tie.InvT-loop
-Inv-loop book width codes start order₀ trail₀ numbers₀ n₀ i₀ order trail numbers n i =
-    Turning (codesFrom book codes start) 127 (statesFrom book codes start) n i order trail numbers
-    × (length order ≡ length order₀) × (length trail ≡ length trail₀) × (length numbers ≡ 128)
+Inv-loop book width codes start order₀ trail₀ marks₀ n₀ i₀ order trail marks n i =
+    Turning (codesFrom book codes start) 127 (statesFrom book codes start) n i order trail marks
+    × (length order ≡ length order₀) × (length trail ≡ length trail₀) × (length marks ≡ 128)
 
 abbrev μ-loop : tie.MeasureT-loop
-μ-loop book width codes start order₀ trail₀ numbers₀ n₀ i₀ order trail numbers n i = 128 - i
+μ-loop book width codes start order₀ trail₀ marks₀ n₀ i₀ order trail marks n i = 128 - i
 
 all : (b : List ℕ) (k s : ℕ) → reached (codesFrom b k s) 127 ≡ statesFrom b k s
 unfolding statesFrom
@@ -43,8 +43,11 @@ module _ (c : tie.Start Inv-loop μ-loop) where
       visit-same (codesFrom b (c .args .codes) 1) (codesFrom b (c .args .codes) (c .args .start)) (step-anywhere b (c .args .codes) 1 (c .args .start))
       (reachedAt order trail i) (c .args .codes) (foundIn n order trail)
 
-array-write-numbers : tie.Need-array-write-numbers Inv-loop μ-loop
-array-write-numbers c = search needs
+array-write-marks : tie.Need-array-write-marks Inv-loop μ-loop
+array-write-marks c = search needs
+
+array-write-marks-2 : tie.Need-array-write-marks-2 Inv-loop μ-loop
+array-write-marks-2 c = search needs
 
 cast-order : tie.Need-cast-order Inv-loop μ-loop
 cast-order c = search needs
@@ -107,7 +110,8 @@ explore-spec =
     (tie.spec
     Inv-loop
     μ-loop
-    array-write-numbers
+    array-write-marks
+    array-write-marks-2
     cast-order
     slice-write-order
     loop-holds

@@ -18,12 +18,12 @@ use Rattle.search.proofs.breadth_first.visit.Statement.{statement}
 use Rattle.search.proofs.breadth_first.visit.Tie as tie
 
 abbrev Inv-loop : tie.InvT-loop
-Inv-loop book width codes order₀ trail₀ numbers₀ n i state k₀ c₀ order trail numbers k c =
-    Visiting (codesFrom book codes 1) (reachedAt order₀ trail₀ i) (foundIn n order₀ trail₀) k c order trail numbers
-    × (length order ≡ length order₀) × (length trail ≡ length trail₀) × (length numbers ≡ length numbers₀)
+Inv-loop book width codes order₀ trail₀ marks₀ n i state k₀ c₀ order trail marks k c =
+    Visiting (codesFrom book codes 1) (reachedAt order₀ trail₀ i) (foundIn n order₀ trail₀) k c order trail marks
+    × (length order ≡ length order₀) × (length trail ≡ length trail₀) × (length marks ≡ length marks₀)
 
 abbrev μ-loop : tie.MeasureT-loop
-μ-loop book width codes order₀ trail₀ numbers₀ n i state k₀ c₀ order trail numbers k c = codes - c
+μ-loop book width codes order₀ trail₀ marks₀ n i state k₀ c₀ order trail marks k c = codes - c
 
 -- the state stands at place i of those found before
 here : (c : tie.Start Inv-loop μ-loop) → c .args .i < length (foundIn (c .args .n) (now (c .args .order)) (now (c .args .trail)))
