@@ -128,6 +128,14 @@ module _ (p : List ℕ) (accepted : Accepted p) where
   unfolding bookOf
   built-frame = refl
 
+  pub built-events : B.events (bookOf p) ≡ P.events p
+  unfolding bookOf
+  built-events = refl
+
+  pub built-requests : B.requests (bookOf p) ≡ P.requests p
+  unfolding bookOf
+  built-requests = policy-requests p (bookRows p) file-passes
+
   pub built-histories : SameHistories (bookMachine (bookOf p)) (policyMachine p)
   unfolding bookOf
   built-histories h =

@@ -1,6 +1,6 @@
 -- The owner's demands 2 and 3, and what verdict and compare owe for any book. No theorem here has a hypothesis beyond this: the policies are accepted, or the
 -- books pass the checks and, where two are compared, have one frame.
-use mathlib.Core.Path.{_≡_, sym, ap, _∙_}
+use mathlib.Core.Path.{_≡_, sym, ap, _∙_, subst₂}
 use mathlib.Core.List.{List}
 use Prim.Native.Nat.{ℕ}
 use Rattle.automaton.specs.Machine.{possible, SameHistories}
@@ -9,15 +9,24 @@ use Rattle.definitions.specs.Situation.{policyMachine}
 use Rattle.definitions.specs.Book as B
 use Rattle.definitions.specs.Refusal.{Accepted}
 use Rattle.definitions.specs.Build.{bookOf}
+use Rattle.definitions.specs.Verdict.{findings}
 use Rattle.definitions.specs.Compare.{comparison}
-use Rattle.definitions.specs.Demands.{Demand2, Demand3}
+use Rattle.definitions.specs.Demands.{FindingsAreRight, Demand2, Demand3}
 use Rattle.definitions.proofs.Accepted.{book-passed}
-use Rattle.definitions.proofs.Built.{built-frame, built-histories, built-passes, frames-same, books-same}
+use Rattle.definitions.proofs.Built.{built-frame, built-events, built-requests, built-histories, built-passes, frames-same, books-same}
 use Rattle.definitions.proofs.SameHistories.{findings-along, comparison-along}
 -- verdict-right : (b : List ℕ) → bookRefusal b ≡ 0 → VerdictIsRight b
 pub use Rattle.definitions.proofs.Verdicts.{verdict-right}
 -- compare-right : (b d : List ℕ) → bookRefusal b ≡ 0 → bookRefusal d ≡ 0 → frame b ≡ frame d → CompareIsRight b d
 pub use Rattle.definitions.proofs.Comparisons.{compare-right}
+
+-- the findings on the book, over the policy's histories, events and requests
+policy-findings : (p : List ℕ) → Accepted p → FindingsAreRight (policyMachine p) (P.events p) (P.requests p) (findings (bookOf p))
+policy-findings p accepted =
+    let b = bookOf p in
+    findings-along (B.bookMachine b) (policyMachine p) (built-histories p accepted) (P.events p) (P.requests p) (findings b)
+    (subst₂ (λ (E Q : ℕ). FindingsAreRight (B.bookMachine b) E Q (findings b)) (built-events p accepted) (built-requests p accepted)
+    (verdict-right b (built-passes p accepted) .findings))
 
 pub demand2 : (p : List ℕ) → Accepted p → Demand2 p
 demand2 p accepted =
@@ -26,7 +35,7 @@ demand2 p accepted =
     let layout = book-passed b .0 passes .layout in
     record {
       histories = built-histories p accepted;
-      findings = findings-along (B.bookMachine b) (policyMachine p) (built-histories p accepted) b (verdict-right b passes .findings);
+      findings = policy-findings p accepted;
       passes = passes;
       frame = built-frame p accepted;
       size = layout .exact;

@@ -7,8 +7,7 @@ use Prim.Native.Nat.{ℕ, _<_}
 use Rattle.automaton.specs.History.{History, Earliest}
 use Rattle.automaton.specs.Machine.{Machine, SameHistories, inOne}
 use Rattle.definitions.specs.Situation.{acceptCode, rejectCode}
-use Rattle.definitions.specs.Book.{events, requests}
-use Rattle.definitions.specs.Verdict.{conflict, missing, blocked}
+use Rattle.definitions.specs.Verdict.{Findings}
 use Rattle.definitions.specs.Demands.{Events, FindingIsRight, BlockingIsRight, FindingsAreRight, ComparisonIsRight}
 
 -- the properties of histories that findings are about, over what is possible instead of a machine
@@ -25,18 +24,12 @@ module _ (possible : History → Bool) (E : ℕ) where
   abbrev Blocked : ℕ → History → Type 0
   Blocked Q h = (possible h ≡ true) × ((es : History) → Events E es → (r : ℕ) → r < Q → Unanswered (h ++ es) r)
 
-module _ (m k : Machine) (same : SameHistories m k) (b : List ℕ) where
-  abbrev E : ℕ
-  E = events b
-
-  abbrev Q : ℕ
-  Q = requests b
-
-  pub findings-along : FindingsAreRight m b → FindingsAreRight k b
+module _ (m k : Machine) (same : SameHistories m k) (E Q : ℕ) (found : Findings) where
+  pub findings-along : FindingsAreRight m E Q found → FindingsAreRight k E Q found
   findings-along right = record {
-    conflict-right = subst (λ (f : History → Bool). FindingIsRight (Conflicting f E) Q (conflict b)) (fun-ext same) (right .conflict-right);
-    missing-right = subst (λ (f : History → Bool). FindingIsRight (Missing f E) Q (missing b)) (fun-ext same) (right .missing-right);
-    blocked-right = subst (λ (f : History → Bool). BlockingIsRight (Blocked f E Q) (blocked b)) (fun-ext same) (right .blocked-right);
+    conflict-right = subst (λ (f : History → Bool). FindingIsRight (Conflicting f E) Q (found .conflict)) (fun-ext same) (right .conflict-right);
+    missing-right = subst (λ (f : History → Bool). FindingIsRight (Missing f E) Q (found .missing)) (fun-ext same) (right .missing-right);
+    blocked-right = subst (λ (f : History → Bool). BlockingIsRight (Blocked f E Q) (found .blocked)) (fun-ext same) (right .blocked-right);
   }
 
 module _ (m m′ k k′ : Machine) (first : SameHistories m m′) (second : SameHistories k k′) (answer : Option History) where

@@ -20,7 +20,7 @@ use Rattle.automaton.proofs.Earliest.{Explored, reached-explored, Passes, first
 use Rattle.definitions.specs.Situation.{acceptCode, rejectCode}
 use Rattle.definitions.specs.Book.{events, requests, states, bookMachine}
 use Rattle.definitions.specs.Refusal.{bookRefusal}
-use Rattle.definitions.specs.Verdict.{acceptable, rejectable, inConflict, answered, unanswered, someRequest, Found, statesReached, lowestRequest, conflict, missing, isBlocked, historyOf, blocked}
+use Rattle.definitions.specs.Verdict.{acceptable, rejectable, inConflict, answered, unanswered, someRequest, Found, statesReached, lowestRequest, conflict, missing, isBlocked, historyOf, blocked, findings}
 use Rattle.definitions.specs.Demands.{ConflictAfter, MissingAfter, BlockedAfter, FindingIsRight, BlockingIsRight, VerdictIsRight}
 use Rattle.definitions.proofs.Accepted.{BookPassed, book-passed}
 use Rattle.definitions.proofs.BookSteps.{step-inside}
@@ -174,6 +174,7 @@ module _ (b : List ℕ) (ok : BookPassed b) where
 
 -- what a verdict owes for any book that rows 12 to 14 let pass
 pub verdict-right : (b : List ℕ) → bookRefusal b ≡ 0 → VerdictIsRight b
+unfolding findings conflict missing blocked
 verdict-right b passes =
     let ok = book-passed b .0 passes in
     record {

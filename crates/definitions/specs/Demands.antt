@@ -7,15 +7,15 @@ use mathlib.Core.List.{List, [], _∷_, _++_}
 use mathlib.Core.Option.{Option, none, some}
 use Prim.Native.Nat.{ℕ, _+_, _*_, _≤_, _<_}
 use lib.ListN.{length, getD, take}
-use Rattle.automaton.specs.History.{History, Earliest}
-use Rattle.automaton.specs.Machine.{Machine, possible, SameHistories, inOne}
+use Rattle.automaton.specs.History.{History, Earlier, Earliest}
+use Rattle.automaton.specs.Machine.{Machine, after, possible, SameHistories, inOne}
 use Rattle.definitions.specs.Policy as P
-use Rattle.definitions.specs.Situation.{acceptCode, rejectCode, policyMachine}
+use Rattle.definitions.specs.Situation.{acceptCode, rejectCode, fits, applies, policyMachine}
 use Rattle.definitions.specs.Book as B
-use Rattle.definitions.specs.Refusal.{bookRefusal}
+use Rattle.definitions.specs.Refusal.{policyRefusal, bookRefusal}
 use Rattle.definitions.specs.Answer.{Answer, refused, given, written, historyBytes}
 use Rattle.definitions.specs.Build.{bookOf, buildAnswer, buildBuffer}
-use Rattle.definitions.specs.Verdict.{Found, conflict, missing, blocked}
+use Rattle.definitions.specs.Verdict.{Found, Findings, findings, foundHistory, verdictAnswer, Buffers, verdictBuffers, conflict, missing, blocked}
 use Rattle.definitions.specs.Compare.{comparison, compareAnswer, compareBuffer}
 
 -- ---- what may happen after a history h in a machine m (a policy's or a book's) with E events and Q requests
@@ -57,11 +57,11 @@ pub record BlockingIsRight (After : History → Type 0) (finding : Option Histor
   pub no-history : finding ≡ none → (h : History) → After h → ⊥
   pub earliest : (h : History) → finding ≡ some h → Earliest After h
 
--- the three findings on a book b are those over all histories possible in a machine m
-pub record FindingsAreRight (m : Machine) (b : List ℕ) : Type 0 where
-  pub conflict-right : FindingIsRight (ConflictAfter m (B.events b)) (B.requests b) (conflict b)
-  pub missing-right : FindingIsRight (MissingAfter m (B.events b)) (B.requests b) (missing b)
-  pub blocked-right : BlockingIsRight (BlockedAfter m (B.events b) (B.requests b)) (blocked b)
+-- three findings are those over all histories possible in a machine m with E events and Q requests
+pub record FindingsAreRight (m : Machine) (E Q : ℕ) (found : Findings) : Type 0 where
+  pub conflict-right : FindingIsRight (ConflictAfter m E) Q (found .conflict)
+  pub missing-right : FindingIsRight (MissingAfter m E) Q (found .missing)
+  pub blocked-right : BlockingIsRight (BlockedAfter m E Q) (found .blocked)
 
 -- ---- "Two accepted policies ..": the histories possible in two machines
 abbrev pub InJustOne : Machine → Machine → History → Type 0
@@ -77,12 +77,61 @@ pub record Demand2 (p : List ℕ) : Type 0 where
   -- "For every history, it is possible in the book exactly when it is possible under the policy"
   pub histories : SameHistories (B.bookMachine (bookOf p)) (policyMachine p)
   -- "The findings on conflict, completeness and blocking are right, each bad one with the earliest history that proves it"
-  pub findings : FindingsAreRight (policyMachine p) (bookOf p)
+  pub findings : FindingsAreRight (policyMachine p) (P.events p) (P.requests p) (findings (bookOf p))
   -- the book is one that every check passes, with the policy's frame
   pub passes : bookRefusal (bookOf p) ≡ 0
   pub frame : B.frame (bookOf p) ≡ P.frame p
   pub size : length (bookOf p) ≡ 12 + B.states (bookOf p) * B.width (bookOf p)
   pub states : (1 ≤ B.states (bookOf p)) × (B.states (bookOf p) ≤ 127)
+
+-- ---- the states of a book: "Alike situations are one state. States are numbered by their earliest history"
+
+-- history h leads to state s
+abbrev pub LeadsTo : Machine → ℕ → History → Type 0
+LeadsTo m s h = after m (m .start) h ≡ s
+
+-- the same histories are possible after g and after h
+abbrev pub SameAfter : Machine → History → History → Type 0
+SameAfter m g h = (k : History) → possible m (g ++ k) ≡ possible m (h ++ k)
+
+-- s is one of the states of book b
+abbrev pub StateOf : List ℕ → ℕ → Type 0
+StateOf b s = (1 ≤ s) × (s ≤ B.states b)
+
+-- of the book b of a policy with machine m
+pub record StatesAreRight (m : Machine) (b : List ℕ) : Type 0 where
+  -- each possible history leads to one of the states, and each state has an earliest history that leads to it
+  pub led : (h : History) → possible m h ≡ true → StateOf b (after (B.bookMachine b) 1 h)
+  pub reached : (s : ℕ) → StateOf b s → (h : History) × Earliest (LeadsTo (B.bookMachine b) s) h
+  -- a smaller number is an earlier history
+  pub numbered : (s t : ℕ) (g h : History) → StateOf b s → StateOf b t → Earliest (LeadsTo (B.bookMachine b) s) g → Earliest (LeadsTo (B.bookMachine b) t) h
+      → (s < t) ↔ Earlier g h
+  -- two possible histories lead to one state exactly when the same histories are possible after each
+  pub joined : (g h : History) → possible m g ≡ true → possible m h ≡ true
+      → (after (B.bookMachine b) 1 g ≡ after (B.bookMachine b) 1 h) ↔ SameAfter m g h
+
+-- ---- row 11: "over 127 situations reached, before joining alike ones", for a file that rows 2 to 10 let pass
+
+-- k possible histories, one for each number below k, that lead to situations no two of which are equal
+pub record DistinctSituations (m : Machine) (k : ℕ) : Type 0 where
+  pub history : ℕ → History
+  pub possibleEach : (i : ℕ) → i < k → possible m (history i) ≡ true
+  pub distinct : (i j : ℕ) → i < j → j < k → after m (m .start) (history i) ≡ after m (m .start) (history j) → ⊥
+
+abbrev pub Row11IsRight : List ℕ → Type 0
+Row11IsRight p = (policyRefusal p ≡ 11) ↔ DistinctSituations (policyMachine p) 128
+
+-- ---- "Levels all different give the source's method 1, all equal its method 2"
+abbrev pub sameLevel : List ℕ → ℕ → ℕ → Type 0
+sameLevel p i k = P.level p (P.rule p i) ≡ P.level p (P.rule p k)
+
+pub record LevelsAreRight (p : List ℕ) : Type 0 where
+  -- all different: at most one rule applies to a request in a valuation
+  pub different : ((i k : ℕ) → i < P.rules p → k < P.rules p → sameLevel p i k → i ≡ k) → (r v i k : ℕ) → i < P.rules p → k < P.rules p
+      → applies p (P.rule p i) r v ≡ true → applies p (P.rule p k) r v ≡ true → i ≡ k
+  -- all equal: every rule that fits applies
+  pub equal : ((i k : ℕ) → i < P.rules p → k < P.rules p → sameLevel p i k) → (r v k : ℕ) → k < P.rules p
+      → applies p (P.rule p k) r v ≡ fits p (P.rule p k) r v
 
 -- ---- demand 3, for two accepted policies
 pub record Demand3 (p q : List ℕ) : Type 0 where
@@ -91,7 +140,7 @@ pub record Demand3 (p q : List ℕ) : Type 0 where
   -- "Comparing two books says same exactly then, and else shows the earliest history possible in just one"
   pub compared : P.frame p ≡ P.frame q → ComparisonIsRight (policyMachine p) (policyMachine q) (comparison (bookOf p) (bookOf q))
 
--- ---- demand 3 over the calls: what build leaves in two buffers that row 1 lets pass, and what compare says of it
+-- ---- demands 2 and 3 over the calls: what build leaves in a buffer that row 1 lets pass, and what verdict and compare say of it
 
 -- "Its book is the first bytes of the buffer, as many as the length that build gives"
 abbrev pub bookIn : Answer ℕ → List ℕ → List ℕ
@@ -101,7 +150,25 @@ bookIn (given n) buffer = take n buffer
 abbrev pub bookBuilt : List ℕ → List ℕ → List ℕ
 bookBuilt p buffer = bookIn (buildAnswer p buffer) (buildBuffer p buffer)
 
--- b and d stand in the buffers after build was called on p and q; history is compare's buffer
+-- three buffers with the histories of three findings at their fronts
+abbrev pub buffersWith : Findings → List ℕ → List ℕ → List ℕ → Buffers
+buffersWith found forConflict forMissing forBlocked = record {
+  forConflict = written (historyBytes (foundHistory (found .conflict))) forConflict;
+  forMissing = written (historyBytes (foundHistory (found .missing))) forMissing;
+  forBlocked = written (historyBytes (found .blocked)) forBlocked;
+}
+
+-- ---- demand 2 over the calls: b stands in the buffer after build was called on p, the other three buffers are verdict's
+pub record JudgedInBuffers (p b forConflict forMissing forBlocked : List ℕ) : Type 0 where
+  pub histories : SameHistories (B.bookMachine b) (policyMachine p)
+  pub judged : (found : Findings) × (verdictAnswer b forConflict forMissing forBlocked ≡ given found)
+      × (verdictBuffers b forConflict forMissing forBlocked ≡ buffersWith found forConflict forMissing forBlocked)
+      × FindingsAreRight (policyMachine p) (P.events p) (P.requests p) found
+
+abbrev pub Demand2OfCalls : List ℕ → List ℕ → List ℕ → List ℕ → List ℕ → Type 0
+Demand2OfCalls p buffer forConflict forMissing forBlocked = JudgedInBuffers p (bookBuilt p buffer) forConflict forMissing forBlocked
+
+-- ---- demand 3 over the calls: b and d stand in the buffers after build was called on p and q; history is compare's buffer
 pub record BooksInBuffers (p q b d history : List ℕ) : Type 0 where
   pub books : (b ≡ d) ↔ ((P.frame p ≡ P.frame q) × SameHistories (policyMachine p) (policyMachine q))
   -- "Two built books of one frame are turned down by row 1 alone"
@@ -113,7 +180,7 @@ Demand3OfCalls p q first second history = BooksInBuffers p q (bookBuilt p first)
 
 -- ---- what verdict and compare owe for any books that rows 12 to 14 let pass, built here or not
 pub record VerdictIsRight (b : List ℕ) : Type 0 where
-  pub findings : FindingsAreRight (B.bookMachine b) b
+  pub findings : FindingsAreRight (B.bookMachine b) (B.events b) (B.requests b) (findings b)
   -- "Histories go into three buffers, at most n − 1 codes each"
   pub conflict-short : (t : Found) → conflict b ≡ some t → length (t .history) < B.states b
   pub missing-short : (t : Found) → missing b ≡ some t → length (t .history) < B.states b
