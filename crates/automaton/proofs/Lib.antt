@@ -1,4 +1,5 @@
 pub mod Order
+pub mod Numbered
 pub mod Machines
 pub mod Counting
 pub mod Loops

@@ -1,27 +1,52 @@
--- The smallest table with the histories of a table: it is tidy, so tables with the same histories have the same smallest table, and none of them has
--- fewer rows. It ends in the rows built for a machine: machines of one width with the same histories have the same rows.
-use mathlib.Core.Path.{_≡_, refl, sym, _∙_, subst}
+-- The smallest table with the histories of a table: it is tidy and numbered by earliest histories. So tables with the same histories have the same smallest
+-- table, and none of them has fewer rows. It ends in the rows built for a machine: machines of one width with the same histories have the same rows.
+use mathlib.Core.Path.{_≡_, refl, sym, ap, _∙_, subst}
 use mathlib.Core.Bool.{true}
-use mathlib.Core.List.{List}
+use mathlib.Core.Logic.{_↔_}
+use mathlib.Core.List.{List, _++_}
 use Prim.Native.Nat.{ℕ, _≤_}
 use native.Mathlib.Omega.{arith}
 use lib.ListN.{length}
 use Rattle.automaton.specs.History.{History}
-use Rattle.automaton.specs.Machine.{Machine, after, isState, SameHistories, Alike}
+use Rattle.automaton.specs.Machine.{Machine, after, isState, possibleFrom, possible, SameHistories, Alike}
 use Rattle.automaton.specs.Explore.{reached}
 use Rattle.automaton.specs.Table.{table, tabled}
 use Rattle.automaton.specs.Join.{joined, minimal}
-use Rattle.automaton.proofs.WellFormed.{IsTable}
+use Rattle.automaton.proofs.Numbered.{Numbered}
+use Rattle.automaton.proofs.Machines.{state-is, after-append}
+use Rattle.automaton.proofs.WellFormed.{IsTable, after-inside}
 use Rattle.automaton.proofs.Exploring.{reached-few}
 use Rattle.automaton.proofs.Joined.{IsClass, joined-step-class, joined-after-class, joined-start, joined-possible, joined-distinct}
 use Rattle.automaton.proofs.Tidy.{TidyRows, tidy-rows-unique}
-use Rattle.automaton.proofs.Tables.{table-length, table-is-table, table-tidy, table-histories}
+use Rattle.automaton.proofs.Tables.{table-length, table-is-table, table-histories, table-numbered, table-tidy}
 
--- a tidy table of width w with the histories of m
+-- a tidy table of width w with the histories of m, its states numbered by their earliest histories
 pub record TidyTableOf (w : ℕ) (m : Machine) (rows : List (List ℕ)) : Type 0 where
   pub isTable : IsTable w rows
   pub tidy : TidyRows w rows
   pub histories : SameHistories (tabled w rows) m
+  pub numbered : Numbered (after (tabled w rows) 1) (length rows)
+
+module _ (w : ℕ) (m : Machine) (rows : List (List ℕ)) (t : TidyTableOf w m rows) where
+  abbrev M : Machine
+  M = tabled w rows
+
+  inside : (h : History) → after M 1 h ≤ length rows
+  inside h = after-inside w rows (t .isTable) 1 h (t .isTable .some)
+
+  -- a possible history leads to a row
+  pub tidy-led : (h : History) → possible m h ≡ true → (1 ≤ after M 1 h) × (after M 1 h ≤ length rows)
+  tidy-led h p = (state-is (after M 1 h) (t .histories h ∙ p), inside h)
+
+  -- two histories lead to one row exactly when the same histories are possible after each
+  pub tidy-joined : (g h : History) → (after M 1 g ≡ after M 1 h) ↔ ((k : History) → possible m (g ++ k) ≡ possible m (h ++ k))
+  tidy-joined g h = (λ e k. from g k ∙ ap (λ (s : ℕ). possibleFrom M s k) e ∙ sym (from h k), back)
+    where
+      from : (g k : History) → possible m (g ++ k) ≡ possibleFrom M (after M 1 g) k
+      from g k = sym (t .histories (g ++ k)) ∙ ap isState (after-append M 1 g k)
+
+      back : ((k : History) → possible m (g ++ k) ≡ possible m (h ++ k)) → after M 1 g ≡ after M 1 h
+      back same = t .tidy .distinct (after M 1 g) (after M 1 h) (inside g) (inside h) (λ k. sym (from g k) ∙ same k ∙ from h k)
 
 -- machines with the same histories have the same tidy table
 module _ (w : ℕ) (m n : Machine) (A B : List (List ℕ)) (a : TidyTableOf w m A) (b : TidyTableOf w n B) where
@@ -51,6 +76,7 @@ module _ (w : ℕ) (rows : List (List ℕ)) (ok : IsTable w rows) where
     isTable = table-is-table J (length rows) refl joined-few;
     tidy = table-tidy J (length rows) refl joined-few led-distinct;
     histories = λ h. table-histories J (length rows) refl joined-few h ∙ joined-possible w rows ok h;
+    numbered = table-numbered J (length rows) refl joined-few;
   }
 
   pub minimal-length : length (minimal w rows) ≤ length rows
@@ -86,7 +112,12 @@ module _ (m : Machine) (most : ℕ) (begins : isState (m .start) ≡ true) (enou
   pub built : TidyTableOf (m .width) m (rowsFor m most)
   built =
       let small = minimal-tidy-table (m .width) whole (table-is-table m most begins enough) in
-      record { isTable = small .isTable; tidy = small .tidy; histories = λ h. small .histories h ∙ table-histories m most begins enough h }
+      record {
+        isTable = small .isTable;
+        tidy = small .tidy;
+        histories = λ h. small .histories h ∙ table-histories m most begins enough h;
+        numbered = small .numbered;
+      }
 
   pub built-length : length (rowsFor m most) ≤ length (reached m most)
   built-length = omega (arith, minimal-length (m .width) whole (table-is-table m most begins enough), table-length m (reached m most))

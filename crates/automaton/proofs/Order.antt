@@ -79,6 +79,15 @@ earlier-tri h k = go (tri (length h) (length k))
     go (inr (inl e)) = same e (smaller-tri h k e)
     go (inr (inr p)) = inr (inr (inl p))
 
+-- where histories come in order, an earlier one has a smaller index
+pub earlier-index : (f : ℕ → History) (i j : ℕ) → (j < i → Earlier (f j) (f i)) → Earlier (f i) (f j) → i < j
+earlier-index f i j sorted l = go (tri i j)
+  where
+    go : (i < j) ⊎ ((i ≡ j) ⊎ (j < i)) → i < j
+    go (inl p) = p
+    go (inr (inl e)) = absurd (earlier-irrefl (f j) (rw e at l))
+    go (inr (inr p)) = absurd (earlier-irrefl (f i) (earlier-trans (f i) (f j) (f i) l (sorted p)))
+
 pub not-later-refl : (h : History) → NotLater h h
 not-later-refl h = inr refl
 

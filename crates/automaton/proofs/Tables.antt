@@ -4,7 +4,7 @@ use mathlib.Core.Path.{_≡_, refl, sym, ap, _∙_, subst}
 use mathlib.Core.Bool.{true, false≢true}
 use mathlib.Core.Logic.{_⊎_, inl, inr}
 use mathlib.Core.List.{List, [], _∷_, _++_}
-use Prim.Native.Nat.{ℕ, zero, suc, _≤_, _<_}
+use Prim.Native.Nat.{ℕ, zero, suc, pred, _≤_, _<_}
 use native.Mathlib.Omega.{arith}
 use native.Mathlib.Decide.{decLt}
 use lib.ListN.{length, getD, length-map, List·getD-eq-default}
@@ -13,7 +13,8 @@ use Rattle.automaton.specs.History.{History, Earlier, NotLater, Earliest
 use Rattle.automaton.specs.Machine.{Machine, step, after, isState, possibleFrom, SameHistories, Alike}
 use Rattle.automaton.specs.Explore.{Reached, numberIn, unreached, reached}
 use Rattle.automaton.specs.Table.{rowOf, rowAt, table, entryIn, tabled}
-use Rattle.automaton.proofs.Order.{tri, earlier-irrefl, earlier-trans, earlier-tri, earlier-append, earlier-code, earlier-not-later}
+use Rattle.automaton.proofs.Order.{tri, earlier-irrefl, earlier-trans, earlier-tri, earlier-index, earlier-append, earlier-code, earlier-not-later}
+use Rattle.automaton.proofs.Numbered.{Numbered}
 use Rattle.automaton.proofs.Machines.{step-past, after-map-on}
 use Rattle.automaton.proofs.Counting.{length-list-below, getD-list-below}
 use Rattle.automaton.proofs.WellFormed.{Wide, IsTable, getD-map-within, entry-beyond, step-entry, step-inside, after-inside}
@@ -165,16 +166,22 @@ module _ (m : Machine) (most : ℕ) (begins : isState (m .start) ≡ true) (enou
           let at : r .0 ≡ k = omega arith in
           rw at at (r .3)
 
+  -- so its states are numbered by their earliest histories
+  pub table-numbered : Numbered (after M 1) (length rows)
+  table-numbered = subst (Numbered (after M 1)) (sym (table-length m found)) (record {
+    history = λ s. historyAt found (pred s);
+    earliest = earliest;
+    inOrder = λ s t some b l. explored .inOrder (pred s) (pred t) (omega arith) (omega arith);
+  })
+    where
+      earliest : (s : ℕ) → 1 ≤ s → s ≤ length found → Earliest (λ h. after M 1 h ≡ s) (historyAt found (pred s))
+      earliest zero some l = absurd (omega arith)
+      earliest (suc k) some l = table-earliest k l
+
   -- ---- the order
   -- an earlier history stands at an earlier place, and one state at one place
   earlier-place : (j k : ℕ) → j < length found → Earlier (historyAt found j) (historyAt found k) → j < k
-  earlier-place j k l b = go (tri j k)
-    where
-      go : (j < k) ⊎ ((j ≡ k) ⊎ (k < j)) → j < k
-      go (inl p) = p
-      go (inr (inl e)) = absurd (earlier-irrefl (historyAt found k) (rw e at b))
-      go (inr (inr p)) =
-          absurd (earlier-irrefl (historyAt found j) (earlier-trans (historyAt found j) (historyAt found k) (historyAt found j) b (explored .inOrder k j p l)))
+  earlier-place j k l b = earlier-index (historyAt found) j k (λ p. explored .inOrder k j p l) b
 
   same-place : (j k : ℕ) → j < length found → k < length found → stateAt found j ≡ stateAt found k → suc j ≡ suc k
   same-place j k lj lk e = sym (sound .once j lj) ∙ ap (numberIn found) e ∙ sound .once k lk

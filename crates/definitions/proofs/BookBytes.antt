@@ -1,5 +1,5 @@
--- A book's bytes read back: a frame of six numbers and rows of one width give bytes with that frame and these rows, and so a machine with the rows'
--- histories. Equal bytes are those of equal frames and equal rows.
+-- A book's bytes read back: a frame of six numbers and rows of one width give bytes with that frame and these rows, and so a machine in which histories
+-- lead to the same rows. Equal bytes are those of equal frames and equal rows.
 use mathlib.Core.Path.{_≡_, refl, ap, ap₂, sym, _∙_, subst}
 use mathlib.Core.Logic.{_↔_}
 use mathlib.Core.List.{List, [], _∷_, _++_}
@@ -11,7 +11,7 @@ use lib.ListN.{length, getD, take, drop, length-append, List·getD-append}
 use lib.Seq.{getD-append-add, getD-at, getD-drop, take-at, drop-at, drop-append-add}
 use borrow.Author.Tests.{lt-ltb}
 use Rattle.automaton.specs.History.{History}
-use Rattle.automaton.specs.Machine.{step, after, isState, SameHistories}
+use Rattle.automaton.specs.Machine.{step, after}
 use Rattle.automaton.specs.Table.{entryIn, tabled}
 use Rattle.automaton.proofs.Congruence.{fold-below-same}
 use Rattle.automaton.proofs.Machines.{step-past}
@@ -104,10 +104,6 @@ module _ (frame : List ℕ) (rows : List (List ℕ)) (six : length frame ≡ 6) 
         after-of-bytes s most (c ∷ h) =
             ap (λ (t : ℕ). after (bookMachine (bookBytes frame rows)) t h) (step-of-bytes s c most)
             ∙ after-of-bytes (step (tabled w rows) s c) (step-inside w rows ok s c) h
-
-        -- and has its histories
-        pub possible-of-bytes : SameHistories (bookMachine (bookBytes frame rows)) (tabled w rows)
-        possible-of-bytes h = ap isState (after-of-bytes 1 (ok .some) h)
 
 -- ---- equal bytes are those of equal frames and equal rows
 pub bytes-same : (w : ℕ) (frame other : List ℕ) (rows others : List (List ℕ)) → length frame ≡ 6 → length other ≡ 6 → Wide w rows → Wide w others

@@ -3,7 +3,7 @@
 use mathlib.Core.Path.{_≡_, refl, sym, ap, ap₂, _∙_}
 use mathlib.Core.Bool.{true}
 use mathlib.Core.List.{List, [], _∷_, _++_}
-use Prim.Native.Nat.{ℕ, zero, suc, _≤_, _<_}
+use Prim.Native.Nat.{ℕ, _≤_, _<_}
 use native.Mathlib.Nat.{le-trans}
 use native.Mathlib.Omega.{arith}
 use lib.ListN.{length}
@@ -21,7 +21,7 @@ use Rattle.definitions.specs.Book.{bookBytes, bookMachine}
 use Rattle.definitions.specs.Refusal.{fileRefusal, situations, Accepted, bookRefusal}
 use Rattle.definitions.specs.Build.{bookRows, bookOf}
 use Rattle.definitions.proofs.Accepted.{FileAccepted, file-accepted, policy-accepted, BookLayout, BookPassed, book-passed}
-use Rattle.definitions.proofs.BookBytes.{length-of-bytes, entry-of-bytes, possible-of-bytes, policy-count, policy-requests, policy-width}
+use Rattle.definitions.proofs.BookBytes.{states-of-bytes, length-of-bytes, entry-of-bytes, after-of-bytes, policy-count, policy-requests, policy-width}
 use Rattle.definitions.proofs.Steps.{start-below, after-below, event-possible}
 
 -- ---- a tidy table of a machine
@@ -29,28 +29,15 @@ module _ (w : ℕ) (m : Machine) (rows : List (List ℕ)) (t : TidyTableOf w m r
   abbrev M : Machine
   M = tabled w rows
 
-  -- each row is reached
-  row-reached : (fuel s : ℕ) → s < fuel → 1 ≤ s → s ≤ length rows → (h : History) × (after M 1 h ≡ s)
-  row-reached zero s b some l = absurd (omega arith)
-  row-reached (suc fuel) zero b some l = absurd (omega arith)
-  row-reached (suc fuel) (suc zero) b some l = ([], refl)
-  row-reached (suc fuel) (suc (suc s)) b some l = go (row-reached fuel) (t .tidy .ordered .met (suc (suc s)) (omega arith) l)
-    where
-      go : ((s : ℕ) → s < fuel → 1 ≤ s → s ≤ length rows → (h : History) × (after M 1 h ≡ s))
-          → (p : ℕ) × (d : ℕ) × (p < suc (suc s)) × (step M p d ≡ suc (suc s)) → (h : History) × (after M 1 h ≡ suc (suc s))
-      go ih (zero, d, k, e) = absurd (omega arith)
-      go ih (suc p, d, k, e) =
-          let r = ih (suc p) (omega arith) (omega arith) (omega arith) in
-          (r .0 ++ (d ∷ []), after-append M 1 (r .0) (d ∷ []) ∙ ap (λ (q : ℕ). step M q d) (r .1) ∙ e)
-
-  -- so a code that is possible after every possible history is possible in each row
+  -- each row is reached, so a code that is possible after every possible history is possible in each row
   always-in-rows : (c : ℕ) → ((h : History) → possible m h ≡ true → possible m (h ++ (c ∷ [])) ≡ true)
       → (s : ℕ) → 1 ≤ s → s ≤ length rows → isState (step M s c) ≡ true
   always-in-rows c always s some l =
-      let r = row-reached (suc s) s (omega arith) some l in
-      let here : possible M (r .0) ≡ true = ap isState (r .1) ∙ is-state s some in
-      ap isState (sym (after-append M 1 (r .0) (c ∷ []) ∙ ap (λ (q : ℕ). step M q c) (r .1)))
-      ∙ t .histories (r .0 ++ (c ∷ [])) ∙ always (r .0) (sym (t .histories (r .0)) ∙ here)
+      let h = t .numbered .history s in
+      let leads : after M 1 h ≡ s = t .numbered .earliest s some l .0 in
+      let here : possible M h ≡ true = ap isState leads ∙ is-state s some in
+      ap isState (sym (after-append M 1 h (c ∷ []) ∙ ap (λ (q : ℕ). step M q c) leads))
+      ∙ t .histories (h ++ (c ∷ [])) ∙ always h (sym (t .histories h) ∙ here)
 
 -- ---- a policy's frame with a table in which no entry for an event is 0
 module _ (p : List ℕ) (passes : fileRefusal p ≡ 0) (rows : List (List ℕ)) (isTable : IsTable (P.width p) rows) (few : length rows ≤ 127)
@@ -104,7 +91,7 @@ module _ (p : List ℕ) (accepted : Accepted p) where
   few : length (situations p) ≤ 127
   few = policy-accepted p accepted .1
 
-  rows-tidy : TidyTableOf (P.width p) (policyMachine p) (bookRows p)
+  pub rows-tidy : TidyTableOf (P.width p) (policyMachine p) (bookRows p)
   unfolding bookRows situations
   rows-tidy = built (policyMachine p) 127 refl few
 
@@ -136,10 +123,18 @@ module _ (p : List ℕ) (accepted : Accepted p) where
   unfolding bookOf
   built-requests = policy-requests p (bookRows p) file-passes
 
-  pub built-histories : SameHistories (bookMachine (bookOf p)) (policyMachine p)
+  pub built-states : B.states (bookOf p) ≡ length (bookRows p)
   unfolding bookOf
-  built-histories h =
-      possible-of-bytes (P.frame p) (bookRows p) refl (P.width p) (policy-width p (bookRows p) file-passes) (rows-tidy .isTable) h ∙ rows-tidy .histories h
+  built-states = states-of-bytes (P.frame p) (bookRows p) refl
+
+  -- a history leads to the same row in the book and in the table
+  pub built-after : (h : History) → after (bookMachine (bookOf p)) 1 h ≡ after (tabled (P.width p) (bookRows p)) 1 h
+  unfolding bookOf
+  built-after =
+      after-of-bytes (P.frame p) (bookRows p) refl (P.width p) (policy-width p (bookRows p) file-passes) (rows-tidy .isTable) 1 (rows-tidy .isTable .some)
+
+  pub built-histories : SameHistories (bookMachine (bookOf p)) (policyMachine p)
+  built-histories h = ap isState (built-after h) ∙ rows-tidy .histories h
 
   pub built-passes : bookRefusal (bookOf p) ≡ 0
   unfolding bookOf

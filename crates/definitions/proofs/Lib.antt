@@ -16,6 +16,7 @@ pub mod Verdicts
 pub mod Comparisons
 pub mod SameHistories
 pub mod Built
+pub mod States
 pub mod Demands
 pub mod Calls
 pub mod Texts
