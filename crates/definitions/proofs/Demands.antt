@@ -1,5 +1,5 @@
--- The owner's demands 2 and 3, and what verdict and compare owe for any book. No theorem here has a hypothesis beyond this: the policies are accepted, or the
--- books pass the checks and, where two are compared, have one frame.
+-- The owner's demands 2 and 3, what verdict and compare owe for any book, row 11 and the levels. No theorem here has a hypothesis beyond this: the policies
+-- are accepted, or for row 11 rows 2 to 10 let the file pass, or the books pass the checks and, where two are compared, have one frame.
 use mathlib.Core.Path.{_≡_, sym, ap, _∙_, subst₂}
 use mathlib.Core.List.{List}
 use Prim.Native.Nat.{ℕ}
@@ -19,6 +19,10 @@ use Rattle.definitions.proofs.SameHistories.{findings-along, comparison
 pub use Rattle.definitions.proofs.Verdicts.{verdict-right}
 -- compare-right : (b d : List ℕ) → bookRefusal b ≡ 0 → bookRefusal d ≡ 0 → frame b ≡ frame d → CompareIsRight b d
 pub use Rattle.definitions.proofs.Comparisons.{compare-right}
+-- row11-right : (p : List ℕ) → fileRefusal p ≡ 0 → Row11IsRight p
+pub use Rattle.definitions.proofs.Row11.{row11-right}
+-- levels-right : (p : List ℕ) → LevelsAreRight p
+pub use Rattle.definitions.proofs.Levels.{levels-right}
 
 -- the findings on the book, over the policy's histories, events and requests
 policy-findings : (p : List ℕ) → Accepted p → FindingsAreRight (policyMachine p) (P.events p) (P.requests p) (findings (bookOf p))

@@ -8,7 +8,7 @@ use mathlib.Core.Option.{Option, none, some}
 use Prim.Native.Nat.{ℕ, _+_, _*_, _≤_, _<_}
 use lib.ListN.{length, getD, take}
 use Rattle.automaton.specs.History.{History, Earlier, Earliest}
-use Rattle.automaton.specs.Machine.{Machine, after, possible, SameHistories, inOne}
+use Rattle.automaton.specs.Machine.{Machine, after, possible, DistinctStates, SameHistories, inOne}
 use Rattle.definitions.specs.Policy as P
 use Rattle.definitions.specs.Situation.{acceptCode, rejectCode, fits, applies, policyMachine}
 use Rattle.definitions.specs.Book as B
@@ -110,16 +110,10 @@ pub record StatesAreRight (m : Machine) (b : List ℕ) : Type 0 where
   pub joined : (g h : History) → possible m g ≡ true → possible m h ≡ true
       → (after (B.bookMachine b) 1 g ≡ after (B.bookMachine b) 1 h) ↔ SameAfter m g h
 
--- ---- row 11: "over 127 situations reached, before joining alike ones", for a file that rows 2 to 10 let pass
-
--- k possible histories, one for each number below k, that lead to situations no two of which are equal
-pub record DistinctSituations (m : Machine) (k : ℕ) : Type 0 where
-  pub history : ℕ → History
-  pub possibleEach : (i : ℕ) → i < k → possible m (history i) ≡ true
-  pub distinct : (i j : ℕ) → i < j → j < k → after m (m .start) (history i) ≡ after m (m .start) (history j) → ⊥
-
+-- ---- row 11: "over 127 situations reached, before joining alike ones", for a file that rows 2 to 10 let pass: it is turned down exactly when 128 possible
+-- histories lead to situations no two of which are equal
 abbrev pub Row11IsRight : List ℕ → Type 0
-Row11IsRight p = (policyRefusal p ≡ 11) ↔ DistinctSituations (policyMachine p) 128
+Row11IsRight p = (policyRefusal p ≡ 11) ↔ DistinctStates (policyMachine p) 128
 
 -- ---- "Levels all different give the source's method 1, all equal its method 2"
 abbrev pub sameLevel : List ℕ → ℕ → ℕ → Type 0
