@@ -120,7 +120,10 @@ abbrev pub sameLevel : List ℕ → ℕ → ℕ → Type 0
 sameLevel p i k = P.level p (P.rule p i) ≡ P.level p (P.rule p k)
 
 pub record LevelsAreRight (p : List ℕ) : Type 0 where
-  -- all different: at most one rule applies to a request in a valuation
+  -- whatever the levels: where a rule fits, a rule of its level or a greater one applies
+  pub greatest : (r v i : ℕ) → i < P.rules p → fits p (P.rule p i) r v ≡ true
+      → (k : ℕ) × (k < P.rules p) × (applies p (P.rule p k) r v ≡ true) × (P.level p (P.rule p i) ≤ P.level p (P.rule p k))
+  -- all different: at most one rule applies to a request in a valuation, so that it is the one of the greatest level that fits
   pub different : ((i k : ℕ) → i < P.rules p → k < P.rules p → sameLevel p i k → i ≡ k) → (r v i k : ℕ) → i < P.rules p → k < P.rules p
       → applies p (P.rule p i) r v ≡ true → applies p (P.rule p k) r v ≡ true → i ≡ k
   -- all equal: every rule that fits applies
