@@ -221,7 +221,7 @@ module _ (m : Machine) (found : List Reached) (sound : Sound m found) where
   sound-above : (k : ℕ) → k < length found → 1 ≤ stateAt found k
   sound-above k l = state-is (stateAt found k) (sound .states k l)
 
-  sound-apart : (j k : ℕ) → j < k → k < length found → stateAt found j ≡ stateAt found k → ⊥
+  pub sound-apart : (j k : ℕ) → j < k → k < length found → stateAt found j ≡ stateAt found k → ⊥
   sound-apart j k b l e = omega (arith, sym (sound .once j (omega arith)) ∙ ap (numberIn found) e ∙ sound .once k l)
 
   -- the states are 1 to n, and each is found once

@@ -5,6 +5,7 @@ pub mod Counting
 pub mod Loops
 pub mod Exploring
 pub mod Earliest
+pub mod Reachable
 pub mod Congruence
 pub mod Turns
 pub mod WellFormed

@@ -3,7 +3,7 @@
 use mathlib.Core.Path.{_≡_}
 use mathlib.Core.Bool.{Bool, cond, true, false}
 use mathlib.Core.List.{[], _∷_}
-use Prim.Native.Nat.{ℕ, zero, suc}
+use Prim.Native.Nat.{ℕ, zero, suc, _<_}
 use lib.Dec.{ltb}
 use Rattle.automaton.specs.History.{History}
 
@@ -33,6 +33,12 @@ possibleFrom m s h = isState (after m s h)
 -- "A history is a list of codes, possible if each step is, from the start"
 abbrev pub possible : Machine → History → Bool
 possible m h = possibleFrom m (m .start) h
+
+-- k possible histories, one for each number below k, that lead to states no two of which are equal
+pub record DistinctStates (m : Machine) (k : ℕ) : Type 0 where
+  pub history : ℕ → History
+  pub possibleEach : (i : ℕ) → i < k → possible m (history i) ≡ true
+  pub distinct : (i j : ℕ) → i < j → j < k → after m (m .start) (history i) ≡ after m (m .start) (history j) → ⊥
 
 -- the same histories are possible in two machines
 abbrev pub SameHistories : Machine → Machine → Type 0

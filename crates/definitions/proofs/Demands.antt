@@ -1,5 +1,6 @@
--- The owner's demands 2 and 3, the states of the book of a policy, and what verdict and compare owe for any book. No theorem here has a hypothesis beyond this:
--- the policies are accepted, or the books pass the checks and, where two are compared, have one frame.
+-- The owner's demands 2 and 3, the states of the book of a policy, row 11 and the levels, and what verdict and compare owe for any book. No theorem here has a
+-- hypothesis beyond this: the policies are accepted, or for row 11 rows 2 to 10 let the file pass, or the books pass the checks and, where two are compared, have
+-- one frame.
 use mathlib.Core.Path.{_≡_, sym, ap, _∙_, subst₂}
 use mathlib.Core.List.{List}
 use Prim.Native.Nat.{ℕ}
@@ -21,6 +22,10 @@ pub use Rattle.definitions.proofs.Verdicts.{verdict-right}
 pub use Rattle.definitions.proofs.Comparisons.{compare-right}
 -- states-right : (p : List ℕ) → Accepted p → StatesAreRight (policyMachine p) (bookOf p)
 pub use Rattle.definitions.proofs.States.{states-right}
+-- row11-right : (p : List ℕ) → fileRefusal p ≡ 0 → Row11IsRight p
+pub use Rattle.definitions.proofs.Row11.{row11-right}
+-- levels-right : (p : List ℕ) → LevelsAreRight p
+pub use Rattle.definitions.proofs.Levels.{levels-right}
 
 -- the findings on the book, over the policy's histories, events and requests
 policy-findings : (p : List ℕ) → Accepted p → FindingsAreRight (policyMachine p) (P.events p) (P.requests p) (findings (bookOf p))

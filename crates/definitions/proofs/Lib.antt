@@ -8,7 +8,9 @@ pub mod Requests
 pub mod Valuations
 pub mod Sets
 pub mod Steps
+pub mod Levels
 pub mod Accepted
+pub mod Row11
 pub mod BookBytes
 pub mod BookSteps
 pub mod Blocking

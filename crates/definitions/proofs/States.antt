@@ -43,7 +43,7 @@ module _ (p : List ℕ) (accepted : Accepted p) where
         (tidy-led (P.width p) (policyMachine p) rows (rows-tidy p accepted) h q);
     reached = λ s l. (book-numbered .history s, book-numbered .earliest s (l .0) (l .1));
     numbered = smaller-is-earlier leads (B.states (bookOf p)) book-numbered;
-    joined = λ g h _ _.
+    joined = λ g h.
         subst (λ (f : History → ℕ). (f g ≡ f h) ↔ SameAfter (policyMachine p) g h) leads-in-table
         (tidy-joined (P.width p) (policyMachine p) rows (rows-tidy p accepted) g h);
   }

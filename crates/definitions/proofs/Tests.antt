@@ -1,6 +1,6 @@
--- What the tests of the byte formats mean, and when rows that are judged in order turn nothing down.
+-- What the tests of the byte formats mean, when rows that are judged in order turn nothing down, and when the last of them turns down.
 use mathlib.Core.Path.{_≡_, refl, sym, _∙_}
-use mathlib.Core.Bool.{Bool, true, false, false≢true, not, _&&_}
+use mathlib.Core.Bool.{Bool, true, false, true≢false, false≢true, not, _&&_}
 use mathlib.Core.Logic.{_↔_}
 use mathlib.Core.List.{List}
 use Prim.Native.Nat.{ℕ, zero, suc, _+_, _*_, _≤_}
@@ -25,6 +25,11 @@ failed r t e n = sym e ∙ not-true r n
 pub judge-zero : (number : ℕ) (passes : Bool) (later : ℕ) → (judge (suc number) passes later ≡ 0) ↔ ((passes ≡ true) × (later ≡ 0))
 judge-zero number true later = (λ e. (refl, e), λ h. h .1)
 judge-zero number false later = (λ e. absurd (omega arith), λ h. absurd (false≢true (h .0)))
+
+-- the last row fits where its test fails
+pub judge-last : (number : ℕ) (passes : Bool) → (judge (suc number) passes 0 ≡ suc number) ↔ (passes ≡ false)
+judge-last number true = (λ e. absurd (omega arith), λ e. absurd (true≢false e))
+judge-last number false = (λ e. refl, λ e. refl)
 
 pub then-judge-zero : (first later : ℕ) → (thenJudge first later ≡ 0) ↔ ((first ≡ 0) × (later ≡ 0))
 then-judge-zero zero later = (λ e. (refl, e), λ h. h .1)

@@ -1,4 +1,5 @@
--- The owner's demands 2 and 3, and what verdict and compare owe for any book, as statements about histories. proofs/Demands.antt proves each.
+-- The owner's demands 2 and 3, the states of the book of a policy, row 11 and the levels, and what verdict and compare owe for any book, as statements about
+-- histories. proofs/Demands.antt proves each, and proofs/Calls.antt those over the calls.
 -- A reader who believes the definitions and these statements needs to believe nothing else.
 use mathlib.Core.Path.{_≡_}
 use mathlib.Core.Bool.{Bool, true, false}
@@ -8,7 +9,7 @@ use mathlib.Core.Option.{Option, none, some}
 use Prim.Native.Nat.{ℕ, _+_, _*_, _≤_, _<_}
 use lib.ListN.{length, getD, take}
 use Rattle.automaton.specs.History.{History, Earlier, Earliest}
-use Rattle.automaton.specs.Machine.{Machine, after, possible, SameHistories, inOne}
+use Rattle.automaton.specs.Machine.{Machine, after, possible, DistinctStates, SameHistories, inOne}
 use Rattle.definitions.specs.Policy as P
 use Rattle.definitions.specs.Situation.{acceptCode, rejectCode, fits, applies, policyMachine}
 use Rattle.definitions.specs.Book as B
@@ -106,27 +107,23 @@ pub record StatesAreRight (m : Machine) (b : List ℕ) : Type 0 where
   -- a smaller number is an earlier history
   pub numbered : (s t : ℕ) (g h : History) → StateOf b s → StateOf b t → Earliest (LeadsTo (B.bookMachine b) s) g → Earliest (LeadsTo (B.bookMachine b) t) h
       → (s < t) ↔ Earlier g h
-  -- two possible histories lead to one state exactly when the same histories are possible after each
-  pub joined : (g h : History) → possible m g ≡ true → possible m h ≡ true
-      → (after (B.bookMachine b) 1 g ≡ after (B.bookMachine b) 1 h) ↔ SameAfter m g h
+  -- two histories lead to one state exactly when the same histories are possible after each; those that are not possible lead to 0, which is no state
+  pub joined : (g h : History) → (after (B.bookMachine b) 1 g ≡ after (B.bookMachine b) 1 h) ↔ SameAfter m g h
 
--- ---- row 11: "over 127 situations reached, before joining alike ones", for a file that rows 2 to 10 let pass
-
--- k possible histories, one for each number below k, that lead to situations no two of which are equal
-pub record DistinctSituations (m : Machine) (k : ℕ) : Type 0 where
-  pub history : ℕ → History
-  pub possibleEach : (i : ℕ) → i < k → possible m (history i) ≡ true
-  pub distinct : (i j : ℕ) → i < j → j < k → after m (m .start) (history i) ≡ after m (m .start) (history j) → ⊥
-
+-- ---- row 11: "over 127 situations reached, before joining alike ones", for a file that rows 2 to 10 let pass: it is turned down exactly when 128 possible
+-- histories lead to situations no two of which are equal
 abbrev pub Row11IsRight : List ℕ → Type 0
-Row11IsRight p = (policyRefusal p ≡ 11) ↔ DistinctSituations (policyMachine p) 128
+Row11IsRight p = (policyRefusal p ≡ 11) ↔ DistinctStates (policyMachine p) 128
 
 -- ---- "Levels all different give the source's method 1, all equal its method 2"
 abbrev pub sameLevel : List ℕ → ℕ → ℕ → Type 0
 sameLevel p i k = P.level p (P.rule p i) ≡ P.level p (P.rule p k)
 
 pub record LevelsAreRight (p : List ℕ) : Type 0 where
-  -- all different: at most one rule applies to a request in a valuation
+  -- whatever the levels: where a rule fits, a rule of its level or a greater one applies
+  pub greatest : (r v i : ℕ) → i < P.rules p → fits p (P.rule p i) r v ≡ true
+      → (k : ℕ) × (k < P.rules p) × (applies p (P.rule p k) r v ≡ true) × (P.level p (P.rule p i) ≤ P.level p (P.rule p k))
+  -- all different: at most one rule applies to a request in a valuation, so that it is the one of the greatest level that fits
   pub different : ((i k : ℕ) → i < P.rules p → k < P.rules p → sameLevel p i k → i ≡ k) → (r v i k : ℕ) → i < P.rules p → k < P.rules p
       → applies p (P.rule p i) r v ≡ true → applies p (P.rule p k) r v ≡ true → i ≡ k
   -- all equal: every rule that fits applies
