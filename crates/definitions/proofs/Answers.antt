@@ -1,9 +1,13 @@
 -- The answer of a call and the buffer after it, by the number of the row that turns the call down: a number that is not 0 is the whole answer and leaves the
--- buffer; 0 gives the value and writes it.
+-- buffer; 0 gives the value and writes it. No buffer is shorter afterwards.
 use mathlib.Core.Path.{_≡_, refl}
+use mathlib.Core.Bool.{Bool, true, false, cond}
 use mathlib.Core.List.{List}
-use Prim.Native.Nat.{ℕ, zero, suc}
+use Prim.Native.Nat.{ℕ, zero, suc, _≤_}
+use native.Mathlib.Nat.{le-refl}
 use native.Mathlib.Omega.{arith}
+use lib.Dec.{eqb}
+use lib.ListN.{length, length-append, length-drop}
 use borrow.Author.Tests.{eq-eqb, ne-eqb}
 use Rattle.definitions.specs.Answer.{answer, refused, given, written, afterCall}
 
@@ -32,3 +36,10 @@ module _ (number : ℕ) (front buffer : List ℕ) where
 
   pub given-buffer : number ≡ 0 → afterCall number front buffer ≡ written front buffer
   given-buffer e = rw (eq-eqb number 0 e)
+
+  pub no-shorter : length buffer ≤ length (afterCall number front buffer)
+  no-shorter = go (eqb number 0)
+    where
+      go : (passes : Bool) → length buffer ≤ length (cond passes (written front buffer) buffer)
+      go true = rw (length-append, length-drop) (omega arith)
+      go false = le-refl (length buffer)

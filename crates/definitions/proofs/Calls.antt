@@ -1,5 +1,5 @@
--- Demand 3 over the calls: the books that build leaves in two buffers, whatever these held, and what compare answers on them.
-use mathlib.Core.Path.{_≡_, refl, sym, ap₂, _∙_, subst₂}
+-- Demands 2 and 3 over the calls: the books that build leaves in buffers, whatever these held, and what verdict and compare answer on them.
+use mathlib.Core.Path.{_≡_, refl, sym, ap₂, _∙_, subst⁻¹, subst₂}
 use mathlib.Core.List.{List}
 use Prim.Native.Nat.{ℕ, _≤_}
 use lib.ListN.{length}
@@ -9,12 +9,13 @@ use Rattle.definitions.specs.Answer.{given, written, historyBytes}
 use Rattle.definitions.specs.Book as B
 use Rattle.definitions.specs.Refusal.{Accepted, bookRefusal, row15}
 use Rattle.definitions.specs.Build.{bookOf, buildRefusal, buildAnswer, buildBuffer}
+use Rattle.definitions.specs.Verdict.{findings, verdictRefusal, verdictAnswer, verdictBuffers}
 use Rattle.definitions.specs.Compare.{comparison, compareRefusal, compareAnswer, compareBuffer}
-use Rattle.definitions.specs.Demands.{bookIn, bookBuilt, BooksInBuffers, Demand3OfCalls}
+use Rattle.definitions.specs.Demands.{bookIn, bookBuilt, buffersWith, JudgedInBuffers, Demand2OfCalls, BooksInBuffers, Demand3OfCalls}
 use Rattle.definitions.proofs.Answers.{given-answer, given-buffer}
 use Rattle.definitions.proofs.Written.{take-written}
 use Rattle.definitions.proofs.Built.{built-passes, frames-same}
-use Rattle.definitions.proofs.Demands.{demand3}
+use Rattle.definitions.proofs.Demands.{demand2, demand3}
 
 -- ---- build
 module _ (p buffer : List ℕ) (accepted : Accepted p) (long : 17284 ≤ length buffer) where
@@ -34,6 +35,22 @@ module _ (p buffer : List ℕ) (accepted : Accepted p) (long : 17284 ≤ length 
   pub book-built : bookBuilt p buffer ≡ bookOf p
   book-built = ap₂ bookIn build-given build-written ∙ take-written (bookOf p) buffer (length (bookOf p)) refl
 
+-- ---- verdict
+module _ (b forConflict forMissing forBlocked : List ℕ) (passes : bookRefusal b ≡ 0)
+    (longConflict : 128 ≤ length forConflict) (longMissing : 128 ≤ length forMissing) (longBlocked : 128 ≤ length forBlocked) where
+  verdict-passes : verdictRefusal b forConflict forMissing forBlocked ≡ 0
+  unfolding verdictRefusal
+  verdict-passes =
+      rw (le-leb 128 (length forConflict) longConflict, le-leb 128 (length forMissing) longMissing, le-leb 128 (length forBlocked) longBlocked) passes
+
+  verdict-given : verdictAnswer b forConflict forMissing forBlocked ≡ given (findings b)
+  unfolding verdictAnswer
+  verdict-given = sym (given-answer (verdictRefusal b forConflict forMissing forBlocked) verdict-passes (findings b))
+
+  verdict-written : verdictBuffers b forConflict forMissing forBlocked ≡ buffersWith (findings b) forConflict forMissing forBlocked
+  unfolding verdictBuffers findings
+  verdict-written = rw verdict-passes
+
 -- ---- compare
 module _ (b d history : List ℕ) (first : bookRefusal b ≡ 0) (second : bookRefusal d ≡ 0) (frames : B.frame b ≡ B.frame d) (long : 256 ≤ length history) where
   frames-pass : row15 b d ≡ 0
@@ -51,6 +68,21 @@ module _ (b d history : List ℕ) (first : bookRefusal b ≡ 0) (second : bookRe
   compare-written : compareBuffer b d history ≡ written (historyBytes (comparison b d)) history
   unfolding compareBuffer
   compare-written = given-buffer (compareRefusal b d history) (historyBytes (comparison b d)) history compare-passes
+
+pub demand2-of-calls : (p buffer forConflict forMissing forBlocked : List ℕ) → Accepted p → 17284 ≤ length buffer
+    → 128 ≤ length forConflict → 128 ≤ length forMissing → 128 ≤ length forBlocked → Demand2OfCalls p buffer forConflict forMissing forBlocked
+demand2-of-calls p buffer forConflict forMissing forBlocked accepted long longConflict longMissing longBlocked =
+    let right = demand2 p accepted in
+    subst⁻¹ (λ (b : List ℕ). JudgedInBuffers p b forConflict forMissing forBlocked) (book-built p buffer accepted long)
+    (record {
+      histories = right .histories;
+      judged = (
+        findings (bookOf p),
+        verdict-given (bookOf p) forConflict forMissing forBlocked (right .passes) longConflict longMissing longBlocked,
+        verdict-written (bookOf p) forConflict forMissing forBlocked (right .passes) longConflict longMissing longBlocked,
+        right .findings,
+      );
+    })
 
 pub demand3-of-calls : (p q first second history : List ℕ) → Accepted p → Accepted q → 17284 ≤ length first → 17284 ≤ length second → 256 ≤ length history
     → Demand3OfCalls p q first second history

@@ -1,10 +1,10 @@
--- A buffer with something written to its front: what is read from the front, what stays after it, and one number more.
+-- A buffer with something written to its front: what is read from the front, what stays after it, and one number more. And how many numbers were read.
 use mathlib.Core.Path.{_≡_, sym, ap, _∙_}
 use mathlib.Core.List.{List, [], _∷_, _++_, append-assoc}
 use Prim.Native.Nat.{ℕ, suc, _+_, _-_, _≤_, _<_}
 use native.Mathlib.Numerals.{add-one}
 use native.Mathlib.Omega.{arith}
-use lib.ListN.{length, getD, take, drop, set, length-append, length-drop, take-append-drop}
+use lib.ListN.{length, getD, take, drop, set, length-append, length-take, length-drop, take-append-drop}
 use lib.Seq.{length-take-le, drop-cons, set-at, take-at, drop-drop, drop-append-add}
 use Rattle.definitions.specs.Answer.{written}
 
@@ -33,6 +33,10 @@ module _ (front buffer : List ℕ) where
       let here : drop (length front) buffer ≡ getD buffer n 0 ∷ drop (suc n) buffer = rw e (drop-cons buffer n 0 h) in
       let long : length (front ++ (x ∷ [])) ≡ suc n = rw (length-append, e, add-one) in
       rw (here, set-at front (getD buffer n 0) (drop (suc n) buffer) x n e, long, append-assoc)
+
+-- if n numbers are read and that is not all of the buffer, there are n
+pub length-taken : (n : ℕ) (buffer : List ℕ) → length (take n buffer) < length buffer → length (take n buffer) ≡ n
+length-taken n buffer short = omega (arith, length-take n buffer)
 
 pub written-take : (n : ℕ) (buffer : List ℕ) → n ≤ length buffer → written (take n buffer) buffer ≡ buffer
 written-take n buffer h = rw (length-take-le n buffer h) (take-append-drop n buffer)

@@ -1,15 +1,12 @@
 -- How large the numbers of document 01's answers are: what makes each fit into its bits of a packed number.
-use mathlib.Core.Path.{_≡_}
 use mathlib.Core.Bool.{Bool, true, false, _&&_}
 use mathlib.Core.List.{List}
-use mathlib.Core.Option.{some}
-use Prim.Native.Nat.{ℕ, _≤_, _<_}
+use Prim.Native.Nat.{ℕ, _≤_}
 use native.Mathlib.Nat.{mul-le-mul}
 use native.Mathlib.Omega.{arith}
 use lib.Dec.{leb, eqb}
 use lib.ListN.{length}
 use Rattle.automaton.specs.Below.{sameList}
-use Rattle.automaton.specs.History.{History}
 use Rattle.definitions.specs.Answer.{judge, thenJudge}
 use Rattle.definitions.specs.Bytes.{hasMark, hasVersion1}
 use Rattle.definitions.specs.Policy.{exactLength}
@@ -18,9 +15,9 @@ use Rattle.definitions.specs.Book.{frame}
 use Rattle.definitions.specs.Refusal.{rangesHold, countsHold, masksHold, valuesHold, row10, row9, row8, row7, row6, row5, row4, row3, fileRefusal, situations, row11, policyRefusal, Accepted, layoutHolds, entriesHold, row14, row13, bookRefusal, row15}
 use Rattle.definitions.specs.Build.{bookOf, buildRefusal}
 use Rattle.definitions.specs.Verdict.{verdictRefusal}
-use Rattle.definitions.specs.Compare.{comparison, compareRefusal}
+use Rattle.definitions.specs.Compare.{compareRefusal}
 use Rattle.definitions.proofs.Accepted.{book-passed}
-use Rattle.definitions.proofs.Demands.{demand2, compare-right}
+use Rattle.definitions.proofs.Demands.{demand2}
 
 -- ---- a book has at most 17,284 bytes
 pub book-small : (p : List ℕ) → Accepted p → length (bookOf p) ≤ 17284
@@ -28,11 +25,6 @@ book-small p accepted =
     let right = demand2 p accepted in
     let layout = book-passed (bookOf p) .0 (right .passes) .layout in
     omega (arith, right .size, mul-le-mul (layout .statesMost) (layout .widthMost))
-
--- ---- a difference has fewer codes than the two books have states
-pub comparison-small : (b d : List ℕ) → bookRefusal b ≡ 0 → bookRefusal d ≡ 0 → frame b ≡ frame d → (h : History) → comparison b d ≡ some h → length h < 254
-comparison-small b d first second frames h e =
-    omega (arith, compare-right b d first second frames .short h e .1, book-passed b .0 first .layout .statesMost, book-passed d .0 second .layout .statesMost)
 
 -- ---- a refusal's number is at most 15
 judge-small : (number : ℕ) (passes : Bool) (later : ℕ) → number ≤ 15 → later ≤ 15 → judge number passes later ≤ 15

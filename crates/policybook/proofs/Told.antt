@@ -13,7 +13,7 @@ use Rattle.definitions.specs.Build.{bookOf, buildRefusal, buildAnswer}
 use Rattle.definitions.specs.Verdict.{Found, conflict, missing, blocked, findings, verdictRefusal, verdictAnswer}
 use Rattle.definitions.specs.Compare.{comparison, compareRefusal, compareAnswer}
 use Rattle.policybook.specs.Packing.{packed, bookLength, historyLength, blockedValue, foundValue, findingsValue}
-use Rattle.verdict.proofs.Small.{SmallFound, conflict-small, missing-small, blocked-small}
+use Rattle.verdict.proofs.Small.{SmallFound, findings-small}
 use Rattle.policybook.proofs.Small.{build-refusal-small, verdict-refusal-small, compare-refusal-small}
 
 -- ---- the refusal and the value
@@ -64,6 +64,7 @@ pub record FindingsTold (b : List ℕ) (told : ℕ) : Type 0 where
 pub findings-told : (b : List ℕ) → bookRefusal b ≡ 0 → FindingsTold b (findingsValue (findings b))
 unfolding findings
 findings-told b passes =
-    let are = parts (foundValue (conflict b)) (foundValue (missing b)) (blockedValue (blocked b)) (found-below (conflict b) (conflict-small b passes))
-    (found-below (missing b) (missing-small b passes)) in
-    record { ofConflict = are .0; ofMissing = are .1; ofBlocked = are .2; byte = blocked-below (blocked b) (blocked-small b passes) }
+    let small = findings-small b passes in
+    let are = parts (foundValue (conflict b)) (foundValue (missing b)) (blockedValue (blocked b)) (found-below (conflict b) (small .ofConflict))
+    (found-below (missing b) (small .ofMissing)) in
+    record { ofConflict = are .0; ofMissing = are .1; ofBlocked = are .2; byte = blocked-below (blocked b) (small .ofBlocked) }

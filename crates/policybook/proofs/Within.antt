@@ -1,29 +1,25 @@
 -- What the code answers is small: the lengths and requests that it tells are those of document 01's answers.
-use mathlib.Core.Path.{_≡_, sym, subst⁻¹}
+use mathlib.Core.Path.{_≡_, subst⁻¹}
 use mathlib.Core.List.{List}
-use mathlib.Core.Option.{some}
-use Prim.Native.Nat.{ℕ, _≤_, _<_}
+use Prim.Native.Nat.{ℕ, _≤_}
 use native.Mathlib.Omega.{arith}
 use lib.Dec.{leb}
 use lib.ListN.{length, take}
-use Rattle.automaton.specs.History.{History}
-use Rattle.automaton.proofs.Counting.{same-list-true}
 use Rattle.definitions.specs.Answer.{given}
-use Rattle.definitions.specs.Book.{frame}
 use Rattle.definitions.specs.Refusal.{policyRefusal, Accepted}
 use Rattle.definitions.specs.Build.{bookOf, buildRefusal, buildAnswer}
-use Rattle.definitions.specs.Compare.{comparison, compareRefusal, compareAnswer}
+use Rattle.definitions.specs.Compare.{compareAnswer}
 use Rattle.definitions.proofs.Tests.{judge-zero}
+use Rattle.definitions.proofs.Answers.{answer-given}
+use Rattle.definitions.proofs.Written.{length-taken}
 use Rattle.build.specs.Built.{builtAnswer}
 use Rattle.build.specs.declared.Built.{Built}
 use Rattle.build.specs.declared.Built.the-variants as Built
-use Rattle.verdict.proofs.Within.{taken-within}
 use Rattle.compare.specs.Answer.{comparedAnswer}
 use Rattle.compare.specs.declared.Compared.{Compared}
 use Rattle.compare.specs.declared.Compared.the-variants as Compared
-use Rattle.compare.proofs.Answering as Answering
-use Rattle.definitions.proofs.Answers.{answer-given}
-use Rattle.policybook.proofs.Small.{book-small, comparison-small}
+use Rattle.compare.proofs.Returned.{difference-small}
+use Rattle.policybook.proofs.Small.{book-small}
 use Rattle.policybook.specs.Within.{BuiltWithin, ComparedWithin}
 
 -- ---- build
@@ -43,17 +39,11 @@ module _ (p buffer : List ℕ) where
   built-within (Built.Written n) e = book-given n e
 
 -- ---- compare
-module _ (b d buffer : List ℕ) where
-  difference-given : (h : History) → given (some h) ≡ compareAnswer b d buffer → (length h < 254) × (256 ≤ length buffer)
-  unfolding compareAnswer
-  difference-given h e =
-      let is = answer-given (compareRefusal b d buffer) (some h) (comparison b d) e in
-      let rows = Answering.passing b d buffer (is .0) in
-      (comparison-small b d (rows .first) (rows .second) (same-list-true (frame b) (frame d) (rows .frames)) h (sym (is .1)), rows .long)
-
-  pub compared-within : (r : Compared) (after : List ℕ) → length after ≡ length buffer → comparedAnswer r after ≡ compareAnswer b d buffer
-      → ComparedWithin 256 r × ComparedWithin (length after) r
-  compared-within (Compared.Refused number) after same e = (tt, tt)
-  compared-within Compared.Same after same e = (tt, tt)
-  compared-within (Compared.Differ n) after same e =
-      let small = difference-given (take n after) e in taken-within n 256 after (omega arith) (omega arith)
+pub compared-within : (b d buffer : List ℕ) (r : Compared) (after : List ℕ) → length after ≡ length buffer → comparedAnswer r after ≡ compareAnswer b d buffer
+    → ComparedWithin 256 r × ComparedWithin (length after) r
+compared-within b d buffer (Compared.Refused number) after same e = (tt, tt)
+compared-within b d buffer Compared.Same after same e = (tt, tt)
+compared-within b d buffer (Compared.Differ n) after same e =
+    let small = difference-small b d buffer (take n after) e in
+    let is = length-taken n after (omega arith) in
+    (omega arith, omega arith)

@@ -7,3 +7,4 @@ pub mod Blocking
 pub mod Judging
 pub mod Small
 pub mod Within
+pub mod Returned

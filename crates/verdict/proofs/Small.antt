@@ -1,19 +1,27 @@
 -- How large the numbers of a finding are: its history has fewer codes than the book has states, and its request is one of the book's.
-use mathlib.Core.Path.{_≡_}
+use mathlib.Core.Path.{_≡_, subst⁻¹}
 use mathlib.Core.List.{List}
 use mathlib.Core.Option.{some}
 use Prim.Native.Nat.{ℕ, _<_}
 use native.Mathlib.Omega.{arith}
 use lib.ListN.{length}
 use Rattle.automaton.specs.History.{History}
+use Rattle.definitions.specs.Answer.{given}
 use Rattle.definitions.specs.Refusal.{bookRefusal}
-use Rattle.definitions.specs.Verdict.{Found, conflict, missing, blocked}
+use Rattle.definitions.specs.Verdict.{Found, Findings, findings, verdictRefusal, verdictAnswer}
 use Rattle.definitions.specs.Demands.{VerdictIsRight}
 use Rattle.definitions.proofs.Accepted.{BookLayout, book-passed}
+use Rattle.definitions.proofs.Answers.{answer-given}
 use Rattle.definitions.proofs.Demands.{verdict-right}
+use Rattle.verdict.proofs.Judging.{Passing, passing}
 
 abbrev pub SmallFound : Found → Type 0
 SmallFound t = (length (t .history) < 127) × (t .request < 64)
+
+pub record SmallFindings (found : Findings) : Type 0 where
+  pub ofConflict : (t : Found) → found .conflict ≡ some t → SmallFound t
+  pub ofMissing : (t : Found) → found .missing ≡ some t → SmallFound t
+  pub ofBlocked : (h : History) → found .blocked ≡ some h → length h < 127
 
 module _ (b : List ℕ) (passes : bookRefusal b ≡ 0) where
   layout : BookLayout b
@@ -22,13 +30,22 @@ module _ (b : List ℕ) (passes : bookRefusal b ≡ 0) where
   right : VerdictIsRight b
   right = verdict-right b passes
 
-  pub conflict-small : (t : Found) → conflict b ≡ some t → SmallFound t
-  conflict-small t e =
-      (omega (arith, right .conflict-short t e, layout .statesMost), omega (arith, right .findings .conflict-right .request t e .0, layout .requestsMost))
+  pub findings-small : SmallFindings (findings b)
+  unfolding findings
+  findings-small = record {
+    ofConflict = λ t e.
+        (omega (arith, right .conflict-short t e, layout .statesMost), omega (arith, right .findings .conflict-right .request t e .0, layout .requestsMost));
+    ofMissing = λ t e.
+        (omega (arith, right .missing-short t e, layout .statesMost), omega (arith, right .findings .missing-right .request t e .0, layout .requestsMost));
+    ofBlocked = λ h e. omega (arith, right .blocked-short h e, layout .statesMost);
+  }
 
-  pub missing-small : (t : Found) → missing b ≡ some t → SmallFound t
-  missing-small t e =
-      (omega (arith, right .missing-short t e, layout .statesMost), omega (arith, right .findings .missing-right .request t e .0, layout .requestsMost))
-
-  pub blocked-small : (h : History) → blocked b ≡ some h → length h < 127
-  blocked-small h e = omega (arith, right .blocked-short h e, layout .statesMost)
+-- findings are given only where no row turns the call down
+module _ (b forConflict forMissing forBlocked : List ℕ) where
+  pub given-small : (found : Findings) → given found ≡ verdictAnswer b forConflict forMissing forBlocked
+      → Passing b forConflict forMissing forBlocked × SmallFindings found
+  unfolding verdictAnswer
+  given-small found e =
+      let is = answer-given (verdictRefusal b forConflict forMissing forBlocked) found (findings b) e in
+      let rows = passing b forConflict forMissing forBlocked (is .0) in
+      (rows, subst⁻¹ SmallFindings (is .1) (findings-small b (rows .book)))
