@@ -15,7 +15,7 @@ use Rattle.definitions.specs.Build.{bookOf, bookRows, buildAnswer, build
 use Rattle.definitions.specs.Verdict.{Found, Findings, findings, verdictAnswer, verdictBuffers}
 use Rattle.definitions.specs.Compare.{comparison, compareAnswer, compareBuffer}
 use Rattle.definitions.specs.Opened.{Telling, none as untold, accept, reject, both, openAnswer, tellAnswer, stepRefusal, stepState}
-use Rattle.definitions.specs.Shelf.{shelfText}
+use Rattle.definitions.specs.Shelf.{bookText, shelfText}
 use Rattle.definitions.specs.Cases.Table.{cases}
 use Rattle.definitions.specs.Cases.Samples.{policyA, bookA}
 use Rattle.definitions.specs.Cases.Claim.{Claim, number, says, bytes, rows, found, history, builds, finds, compares, tells, Holds, test, sameRows, sameOption, sameAnswer, sameFound, sameFindings, tellingNumber, sameTelling}
@@ -25,7 +25,7 @@ fails claim = not (test claim)
 
 -- the number of the first case that fails is 0: none does
 none-fails : placeOf fails cases ≡ 0
-unfolding bookOf bookRows situations findings comparison policyRefusal bookRefusal buildAnswer buildBuffer verdictAnswer verdictBuffers compareAnswer compareBuffer openAnswer tellAnswer stepRefusal stepState shelfText
+unfolding bookOf bookRows situations findings comparison policyRefusal bookRefusal buildAnswer buildBuffer verdictAnswer verdictBuffers compareAnswer compareBuffer openAnswer tellAnswer stepRefusal stepState bookText shelfText
 none-fails = refl
 
 -- ---- what passes a test is equal

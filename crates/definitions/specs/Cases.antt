@@ -2,6 +2,7 @@
 pub mod Claim
 pub mod Samples
 pub mod Document
+pub mod Several
 pub mod Khoumsi
 pub mod Refusals
 pub mod Limits
