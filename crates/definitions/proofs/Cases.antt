@@ -4,7 +4,7 @@ use mathlib.Core.Bool.{Bool, true, false, not, Bool·beq, false≢true}
 use mathlib.Core.List.{List, [], _∷_}
 use mathlib.Core.Option.{Option, none, some}
 use Prim.Native.Nat.{ℕ, zero, suc, _<_}
-use lib.Dec.{eqb, lit<}
+use lib.Dec.{eqb}
 use lib.ListN.{length, getD}
 use borrow.Author.Tests.{eqb-true, not-false}
 use Rattle.automaton.specs.Below.{sameList, placeOf}
@@ -15,9 +15,8 @@ use Rattle.definitions.specs.Build.{bookOf, bookRows, buildAnswer, build
 use Rattle.definitions.specs.Verdict.{Found, Findings, findings, verdictAnswer, verdictBuffers}
 use Rattle.definitions.specs.Compare.{comparison, compareAnswer, compareBuffer}
 use Rattle.definitions.specs.Opened.{Telling, none as untold, accept, reject, both, openAnswer, tellAnswer, stepRefusal, stepState}
-use Rattle.definitions.specs.Shelf.{bookText, shelfText}
+use Rattle.definitions.specs.Shelf.{shelfText}
 use Rattle.definitions.specs.Cases.Table.{cases}
-use Rattle.definitions.specs.Cases.Samples.{policyA, bookA}
 use Rattle.definitions.specs.Cases.Claim.{Claim, number, says, bytes, rows, found, history, builds, finds, compares, tells, Holds, test, sameRows, sameOption, sameAnswer, sameFound, sameFindings, tellingNumber, sameTelling}
 
 abbrev fails : Claim → Bool
@@ -25,7 +24,7 @@ fails claim = not (test claim)
 
 -- the number of the first case that fails is 0: none does
 none-fails : placeOf fails cases ≡ 0
-unfolding bookOf bookRows situations findings comparison policyRefusal bookRefusal buildAnswer buildBuffer verdictAnswer verdictBuffers compareAnswer compareBuffer openAnswer tellAnswer stepRefusal stepState bookText shelfText
+unfolding bookOf bookRows situations findings comparison policyRefusal bookRefusal buildAnswer buildBuffer verdictAnswer verdictBuffers compareAnswer compareBuffer openAnswer tellAnswer stepRefusal stepState shelfText
 none-fails = refl
 
 -- ---- what passes a test is equal
@@ -106,7 +105,3 @@ passed (tells x y) e = same-answer-true sameTelling same-telling-true x y e
 -- each case of the table, by its place
 pub case-holds : (k : ℕ) → k < length cases → Holds (getD cases k (number 0 0))
 case-holds k within = passed (getD cases k (number 0 0)) (not-false (test (getD cases k (number 0 0))) (place-none fails (number 0 0) cases none-fails k within))
-
--- as the first
-pub book-of-A : bookOf policyA ≡ bookA
-book-of-A = case-holds 0 (lit< tt)

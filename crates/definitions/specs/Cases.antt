@@ -7,4 +7,5 @@ pub mod Khoumsi
 pub mod Refusals
 pub mod Limits
 pub mod Calls
+pub mod Large
 pub mod Table

@@ -1,15 +1,15 @@
--- Document 01's "Cases to be proved", row by row, with one case more for its first trainee error.
+-- Document 01's "Cases to be proved", row by row but for S, which stands in Large, with one case more for its first trainee error.
 use mathlib.Core.List.{List, [], _∷_, _++_}
 use mathlib.Core.Option.{none, some}
 use Prim.Native.Nat.{ℕ}
 use lib.ListN.{length, set, replicate}
-use Rattle.definitions.specs.Refusal.{policyRefusal, situations}
+use Rattle.definitions.specs.Refusal.{situations}
 use Rattle.definitions.specs.Build.{bookOf, bookRows}
 use Rattle.definitions.specs.Verdict.{findings}
 use Rattle.definitions.specs.Compare.{comparison}
 use Rattle.definitions.specs.Shelf.{shelfText}
 use Rattle.definitions.specs.Cases.Claim.{Claim, number, bytes, rows, found, history}
-use Rattle.definitions.specs.Cases.Samples.{policyA, policyB, policyC, policyD, policyE, policyF, policyG, policyJ, policyH, policyS, policyL, bookA, noFindings, conflictAfter, missingAfter, missingAndBlockedAfter}
+use Rattle.definitions.specs.Cases.Samples.{policyA, policyB, policyC, policyD, policyE, policyF, policyG, policyJ, policyH, policyL, bookA, noFindings, conflictAfter, missingAfter, missingAndBlockedAfter}
 
 -- "states 3", "conflict 0 2 3 3", "missing -", "blocked -"
 abbrev textE : List ℕ
@@ -55,11 +55,6 @@ documentCases =
     ∷ number (length (situations policyH)) 2
     ∷ rows (bookRows policyH) ((1 ∷ 0 ∷ []) ∷ [])
     ∷ found (findings (bookOf policyH)) noFindings
-    -- S with 6
-    ∷ number (length (situations (policyS 6))) 64
-    ∷ number (length (bookRows (policyS 6))) 1
-    -- S with 7
-    ∷ number (policyRefusal (policyS 7)) 11
     -- a lower level does not apply because the higher rule decided the same
     ∷ rows (bookRows policyL) ((1 ∷ 0 ∷ []) ∷ [])
     ∷ []

@@ -1,17 +1,13 @@
--- Both sides of every limit that document 01 sets: the last value that passes, and the first that is turned down.
+-- Both sides of every limit that document 01 sets but that of row 11, which stands in Large: the last value that passes, and the first that is turned down.
 use mathlib.Core.List.{List, [], _∷_, _++_}
 use Prim.Native.Nat.{ℕ}
-use lib.ListN.{length, set, take, replicate}
+use lib.ListN.{set, take, replicate}
 use Rattle.definitions.specs.Book.{bookBytes}
-use Rattle.definitions.specs.Refusal.{policyRefusal, bookRefusal, situations}
+use Rattle.definitions.specs.Refusal.{policyRefusal, bookRefusal}
 use Rattle.definitions.specs.Opened.{stepRefusal, tellRefusal}
 use Rattle.definitions.specs.Shelf.{decimal}
 use Rattle.definitions.specs.Cases.Claim.{Claim, number, bytes}
-use Rattle.definitions.specs.Cases.Samples.{policy, ruleOf, policyA, bookA, twoFields, twoBounds}
-
--- all non-empty sets of 0 and a subset of 1 to 6, or of such a subset alone: S with 6, and a request that leaves 0 out
-abbrev policy127 : List ℕ
-policy127 = policy 0 1 4 (3 ∷ ruleOf 3 1 0 0 1 0 ++ ruleOf 1 1 0 0 1 1 ++ ruleOf 3 1 0 1 6 1 ++ ruleOf 4 1 0 1 0 0)
+use Rattle.definitions.specs.Cases.Samples.{policy, policyA, bookA, twoFields, twoBounds}
 
 -- a book of n states in which every code leads to the start: E events, F fields, four counts, rows of w entries
 abbrev bookOfOnes : ℕ → ℕ → List ℕ → ℕ → ℕ → List ℕ
@@ -64,9 +60,6 @@ limitCases =
     -- 10: 64 valuations pass, 65 do not
     ∷ number (policyRefusal (twoBounds 15 3)) 0
     ∷ number (policyRefusal (twoBounds 12 4)) 10
-    -- 11: 127 situations pass; S with 7 has 128
-    ∷ number (length (situations policy127)) 127
-    ∷ number (policyRefusal policy127) 0
     -- 12: under 12 bytes, each byte of the mark and the version
     ∷ number (bookRefusal (take 11 bookA)) 12
     ∷ number (bookRefusal (take 12 bookA)) 13

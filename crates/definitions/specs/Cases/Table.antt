@@ -1,4 +1,4 @@
--- The one table of all cases.
+-- The one table of all cases, those first that take the least to compute.
 use mathlib.Core.List.{List, _++_}
 use Rattle.definitions.specs.Cases.Claim.{Claim}
 use Rattle.definitions.specs.Cases.Document.{documentCases}
@@ -7,6 +7,7 @@ use Rattle.definitions.specs.Cases.Khoumsi.{khoumsiCases}
 use Rattle.definitions.specs.Cases.Refusals.{refusalCases}
 use Rattle.definitions.specs.Cases.Limits.{limitCases}
 use Rattle.definitions.specs.Cases.Calls.{callCases}
+use Rattle.definitions.specs.Cases.Large.{largeCases}
 
 abbrev pub cases : List Claim
-cases = documentCases ++ severalCases ++ khoumsiCases ++ refusalCases ++ limitCases ++ callCases
+cases = callCases ++ refusalCases ++ khoumsiCases ++ documentCases ++ limitCases ++ severalCases ++ largeCases
