@@ -1,0 +1,2 @@
+-- The definitions that the contracts of `streams` cite.
+pub mod Input
