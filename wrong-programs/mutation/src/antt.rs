@@ -1,5 +1,6 @@
 //! Reads a file of definitions: its tokens, and the parts of it that can be changed.
 
+use std::collections::HashMap;
 use std::ops::Range;
 
 /// A word or a mark of the text, by its bytes.
@@ -17,6 +18,8 @@ pub struct Part {
     pub tokens: Vec<Token>,
     /// The variables and, where the declaration tells them, their types.
     pub bound: Vec<(String, Option<String>)>,
+    /// The patterns before the equals sign; nothing for a field.
+    pub patterns: Option<Range<usize>>,
 }
 
 /// A file of definitions.
@@ -25,6 +28,8 @@ pub struct File {
     pub parts: Vec<Part>,
     /// What the file declares, in order: the place, the name, the type.
     pub declared: Vec<(usize, String, String)>,
+    /// The text between the name of a definition and its equations: hidden parameters and the type.
+    pub signatures: HashMap<String, String>,
     /// The names that other files give: the name here, the file's path in `crates/`, the name there.
     pub imported: Vec<(String, String, String)>,
     /// The files that are named as a whole: the name here, the file's path in `crates/`.
@@ -67,6 +72,13 @@ fn token(text: &str, at: Range<usize>) -> Token {
     Token { text: text[at.clone()].to_string(), at }
 }
 
+impl Part {
+    /// Its bytes in the file.
+    pub fn bytes(&self) -> Range<usize> {
+        self.tokens[0].at.start..self.tokens[self.tokens.len() - 1].at.end
+    }
+}
+
 /// The tokens, one blank apart.
 pub fn joined(tokens: &[Token]) -> String {
     let words: Vec<&str> = tokens.iter().map(|t| t.text.as_str()).collect();
@@ -82,8 +94,13 @@ fn path_of(module: &str) -> Option<String> {
 }
 
 impl File {
+    /// The parts of one definition: its equations.
+    pub fn equations<'a>(&'a self, definition: &'a str) -> impl Iterator<Item = &'a Part> {
+        self.parts.iter().filter(move |p| p.definition == definition)
+    }
+
     pub fn read(text: String) -> File {
-        let mut file = File { text, parts: Vec::new(), declared: Vec::new(), imported: Vec::new(), modules: Vec::new() };
+        let mut file = File { text, parts: Vec::new(), declared: Vec::new(), signatures: HashMap::new(), imported: Vec::new(), modules: Vec::new() };
         let items = items(&file.text);
         let mut signature: Option<(String, String)> = None;
         for item in items {
@@ -127,7 +144,9 @@ impl File {
     /// `abbrev pub NAME {..} : TYPE`
     fn signature(&mut self, words: &[Token]) -> Option<(String, String)> {
         let colon = words.iter().position(|t| t.text == ":")?;
-        let name = words.iter().map(|t| t.text.as_str()).find(|t| !matches!(*t, "abbrev" | "unfoldable" | "pub"))?.to_string();
+        let named = words.iter().find(|t| !matches!(t.text.as_str(), "abbrev" | "unfoldable" | "pub"))?;
+        let name = named.text.clone();
+        self.signatures.insert(name.clone(), self.text[named.at.end..words.last()?.at.end].to_string());
         let kind = joined(&words[colon + 1..]);
         self.declared.push((words[0].at.start, name.clone(), kind.clone()));
         Some((name, kind))
@@ -140,7 +159,8 @@ impl File {
             return;
         }
         let bound = pattern_variables(&words[1..equals], &arguments(kind));
-        self.parts.push(Part { definition: name.clone(), kind: kind.clone(), tokens: words[equals + 1..].to_vec(), bound });
+        let patterns = Some(words[0].at.end..words[equals].at.start);
+        self.parts.push(Part { definition: name.clone(), kind: kind.clone(), tokens: words[equals + 1..].to_vec(), bound, patterns });
     }
 
     /// A record's fields, each a statement or a plain type.
@@ -159,7 +179,8 @@ impl File {
         for (k, &from) in starts.iter().enumerate() {
             let to = starts.get(k + 1).copied().unwrap_or(words.len());
             let field = format!("{name}.{}", words[from + 1].text);
-            self.parts.push(Part { definition: field, kind: String::new(), tokens: words[from + 3..to].to_vec(), bound: params.clone() });
+            let tokens = words[from + 3..to].to_vec();
+            self.parts.push(Part { definition: field, kind: String::new(), tokens, bound: params.clone(), patterns: None });
         }
     }
 }

@@ -56,7 +56,8 @@ fn root() -> PathBuf {
 fn believed(root: &Path) -> Vec<String> {
     let listed = Command::new(root.join("tools/believe")).arg("--files").output().expect("tools/believe");
     let text = String::from_utf8(listed.stdout).expect("paths");
-    text.lines().map(|l| l.strip_prefix("crates/").unwrap_or(l).to_string()).collect()
+    let paths = text.split_whitespace().filter_map(|word| word.strip_prefix("crates/"));
+    paths.filter(|path| path.contains("/specs/") && path.ends_with(".antt")).map(str::to_string).collect()
 }
 
 /// Every name that a file of definitions declares, with its type.

@@ -1,6 +1,6 @@
 //! Tries changes: each is written into a copy of the repository, and the prover checks the crate alone.
 
-use std::collections::{HashMap, HashSet};
+use std::collections::{BTreeMap, BTreeSet, HashMap, HashSet};
 use std::fs;
 use std::io::Write;
 use std::path::{Path, PathBuf};
@@ -73,6 +73,35 @@ impl Trial<'_> {
         }
         text
     }
+}
+
+/// The file with each change as a definition of its own after it, and the first line of each: a change that does not type-check is found at its line. The fields of
+/// records are left out.
+fn side_by_side(file: &File, trials: &[&Trial]) -> (String, Vec<Option<usize>>) {
+    let imports: BTreeSet<&String> = trials.iter().filter_map(|t| t.mutant.import.as_ref()).collect();
+    let first = if file.text.starts_with("use ") { 0 } else { file.text.find("\nuse ").map_or(0, |n| n + 1) };
+    let mut text = file.text.clone();
+    for import in imports {
+        text.insert_str(first, &format!("{import}\n"));
+    }
+    let mut lines = Vec::new();
+    for (i, trial) in trials.iter().enumerate() {
+        let Mutant { definition, part, at, new, .. } = trial.mutant;
+        let Some(signature) = file.signatures.get(definition) else {
+            lines.push(None);
+            continue;
+        };
+        let name = format!("changed{i}");
+        text += &format!("\nabbrev {name}{signature}\n");
+        lines.push(Some(text.lines().count()));
+        for equation in file.equations(definition) {
+            let bytes = equation.bytes();
+            let patterns = equation.patterns.clone().map_or("", |p| &file.text[p]);
+            let right = if bytes == *part { format!("{}{new}{}", &file.text[bytes.start..at.start], &file.text[at.end..bytes.end]) } else { file.text[bytes].to_string() };
+            text += &format!("{name}{patterns}= {right}\n");
+        }
+    }
+    (text, lines)
 }
 
 /// The outcomes that are known: a line for each, the key and a word.
@@ -165,6 +194,36 @@ fn tried(folder: &Path, trial: &Trial) -> Option<Outcome> {
     }
 }
 
+/// Finds the changes that do not type-check, those of one file in one run.
+fn sort_out(copy: &Copy, trials: &[&Trial], log: &Log) {
+    let mut files: BTreeMap<&str, Vec<&Trial>> = BTreeMap::new();
+    for trial in trials.iter().filter(|t| log.get(&t.key()).is_none()) {
+        files.entry(trial.path).or_default().push(trial);
+    }
+    for (path, trials) in files {
+        let (text, lines) = side_by_side(trials[0].file, &trials);
+        let place = copy.laws().join("crates").join(path);
+        fs::write(&place, text).expect("the changes are written");
+        let (_, said) = prover(&copy.laws(), trials[0].crate_name());
+        fs::write(&place, &trials[0].file.text).expect("the changes are taken back");
+        let wrong: Vec<usize> = said
+            .lines()
+            .filter(|l| l.contains(": error: "))
+            .filter_map(|l| l.split_once(&format!("crates/{path}:"))?.1.split(':').next()?.parse().ok())
+            .collect();
+        let mut untyped = 0;
+        for (i, trial) in trials.iter().enumerate() {
+            let Some(from) = lines[i] else { continue };
+            let to = lines[i + 1..].iter().flatten().next().map_or(usize::MAX, |next| *next);
+            if wrong.iter().any(|line| (from..to).contains(line)) {
+                log.put(trial.key(), Outcome::Untyped);
+                untyped += 1;
+            }
+        }
+        eprintln!("{path}: {untyped} of {} changes do not type-check", trials.len());
+    }
+}
+
 fn only_cases(proofs: &Path) {
     let table = fs::read(proofs.join("Cases.antt")).expect("the table of cases");
     fs::remove_dir_all(proofs).expect("the proofs are removed");
@@ -202,6 +261,11 @@ impl Drop for Copy {
 pub fn run(root: &Path, trials: &[Trial], log: &Log, jobs: usize, cases_alone: bool) {
     let open: Vec<&Trial> = trials.iter().filter(|t| matches!(log.get(&t.key()), None | Some(Outcome::Survives))).collect();
     let crates: HashSet<&str> = open.iter().map(|t| t.crate_name()).collect();
+    if open.is_empty() {
+        return;
+    }
+    sort_out(&Copy::of(root, jobs, &crates), &open, log);
+    let open: Vec<&Trial> = open.into_iter().filter(|t| log.get(&t.key()) != Some(Outcome::Untyped)).collect();
     let next = AtomicUsize::new(0);
     std::thread::scope(|scope| {
         for number in 0..jobs {
