@@ -10,9 +10,12 @@ use Rattle.automaton.specs.Below.{listBelow}
 use Rattle.automaton.proofs.Counting.{length-list-below, getD-list-below}
 use Rattle.automaton.proofs.Congruence.{list-below-same}
 use Rattle.automaton.proofs.Loops.{fold-more}
+use Rattle.automaton.specs.Machine.{step}
 use Rattle.definitions.specs.Bytes.{bit}
 use Rattle.definitions.specs.Situation.{emptySet, union}
-use Rattle.explore.specs.Images.{unionAt, unions, withImageAt, withImageIn, withImages, imageOfSetIn, imagesOfSet}
+use Rattle.definitions.proofs.BookSteps.{is-state}
+use Rattle.definitions.proofs.Steps.{step-next}
+use Rattle.explore.specs.Images.{unionAt, unions, withImageAt, withImageIn, withImages, imageOfSetIn, imagesOfSet, imagesMachine}
 
 module _ (images : List ℕ) (w set : ℕ) where
   -- the images of valuation v are put in, or not
@@ -36,3 +39,10 @@ module _ (images : List ℕ) (w set : ℕ) where
       list-below-same (withImageIn images w set v (imagesOfSet images v w set)) (imageOfSetIn images (v + 1) w set) w
       (λ c l.
       ap (withImageAt images w set c v) (getD-list-below (imageOfSetIn images v w set) w c 0 l) ∙ sym (fold-more (withImageAt images w set c) emptySet v))
+
+  -- an entry of the row is a step
+  pub row-step : (valuations c : ℕ) {row : List ℕ} → 0 < set → row ≡ imagesOfSet images valuations w set → c < w
+      → getD row c 0 ≡ step (imagesMachine images valuations w) set c
+  row-step valuations c state is l =
+      ap (λ (row : List ℕ). getD row c 0) is ∙ getD-list-below (imageOfSetIn images valuations w set) w c 0 l
+      ∙ sym (step-next (imagesMachine images valuations w) set c (is-state set state) l)

@@ -1,4 +1,4 @@
-// Breadth-first search over the situations of a policy, by its table of images.
+// Breadth-first search over the situations of a policy, by its table of images. A slice holds a situation as its word.
 ghost use mathlib.Core.Path.{_≡_};
 ghost use Prim.Native.Nat.{_+_, _*_, _<_, _≤_, max};
 ghost use lib.Dec.{eqb};
@@ -15,9 +15,10 @@ use situation::Situation;
 fn clear(next: &mut [u64])
     ensures { λ r. ⌜ now (next .exit) ≡ emptySets (length (now (next .entry))) ⌝ }
 {
+    let none = Situation::empty();
     let mut c = 0;
     while c < next.len() {
-        next[c] = Situation::EMPTY.set;
+        next[c] = none.set;
         c += 1;
     }
 }
@@ -29,7 +30,9 @@ fn unite(next: &mut [u64], more: &[u64])
 {
     let mut c = 0;
     while c < next.len() {
-        next[c] = next[c] | more[c];
+        let old = Situation { set: next[c] };
+        let united = old.plus(Situation { set: more[c] });
+        next[c] = united.set;
         c += 1;
     }
 }
@@ -59,13 +62,14 @@ fn step_all(images: &[u64], valuations: usize, w: usize, situation: Situation, n
 }
 
 // The place of `x` among the first `n` found, counted from 1; 0 if it is not there.
-fn place(found: &[u64], n: usize, x: u64) -> usize
+fn place(found: &[u64], n: usize, x: Situation) -> usize
     requires { ⌜ n ≤ length (now found) ⌝ }
-    ensures { λ r. ⌜ r ≡ placeOf (eqb x) (take n (now (found .entry))) ⌝ }
+    ensures { λ r. ⌜ r ≡ placeOf (eqb (x .set)) (take n (now (found .entry))) ⌝ }
 {
     let mut i = 0;
     while i < n {
-        if found[i] == x {
+        let known = Situation { set: found[i] };
+        if known.equals(x) {
             return i + 1;
         }
         i += 1;
@@ -74,9 +78,9 @@ fn place(found: &[u64], n: usize, x: u64) -> usize
 }
 
 // Whether `number` is that of a state, `x`, among the first `n` found.
-fn is_number(found: &[u64], n: usize, x: u64, number: usize) -> bool
+fn is_number(found: &[u64], n: usize, x: Situation, number: usize) -> bool
     requires { ⌜ n ≤ length (now found) ⌝ }
-    ensures { λ r. ⌜ r ≡ isNumber (now (found .entry)) n x number ⌝ }
+    ensures { λ r. ⌜ r ≡ isNumber (now (found .entry)) n (x .set) number ⌝ }
 {
     if number < 1 {
         return false;
@@ -84,20 +88,23 @@ fn is_number(found: &[u64], n: usize, x: u64, number: usize) -> bool
     if n < number {
         return false;
     }
-    found[number - 1] == x
+    let known = Situation {
+        set: found[number - 1],
+    };
+    known.equals(x)
 }
 
 // The number of a state among the first `n` found, where a new one is put in after them.
-fn enter(found: &mut [u64], n: usize, x: u64) -> usize
-    requires { ⌜ (n < length (now found)) × (0 < x) ⌝ }
-    ensures { λ r. ⌜ r ≡ numberAmong (addState (take n (now (found .entry))) x) x ⌝ }
-    ensures { λ r. ⌜ now (found .exit) ≡ written (addState (take n (now (found .entry))) x) (now (found .entry)) ⌝ }
+fn enter(found: &mut [u64], n: usize, x: Situation) -> usize
+    requires { ⌜ (n < length (now found)) × (0 < x .set) ⌝ }
+    ensures { λ r. ⌜ r ≡ numberAmong (addState (take n (now (found .entry))) (x .set)) (x .set) ⌝ }
+    ensures { λ r. ⌜ now (found .exit) ≡ written (addState (take n (now (found .entry))) (x .set)) (now (found .entry)) ⌝ }
 {
     let number = place(found, n, x);
     if 0 < number {
         return number;
     }
-    found[n] = x;
+    found[n] = x.set;
     n + 1
 }
 
@@ -111,13 +118,12 @@ fn note(found: &mut [u64], n: usize, x: Situation, hints: &mut [u8]) -> usize
     if x.is_empty() {
         return 0;
     }
-    let set = x.set;
-    let at = (set % 251) as usize;
+    let at = (x.set % 251) as usize;
     let hint = wide(hints[at]);
-    if is_number(found, n, set, hint) {
+    if is_number(found, n, x, hint) {
         return hint;
     }
-    let number = enter(found, n, set);
+    let number = enter(found, n, x);
     hints[at] = number as u8;
     number
 }
@@ -141,18 +147,18 @@ fn visit(
     w: usize,
     found: &mut [u64],
     n: usize,
-    set: u64,
+    situation: Situation,
     row: &mut [u8],
     next: &mut [u64],
     hints: &mut [u8],
 ) -> usize
     requires { ⌜ (valuations ≤ 64) × (valuations * w ≤ length (now images)) × (length (now next) ≡ w) ⌝ }
-    requires { ⌜ (n ≤ 127) × (128 ≤ length (now found)) × (w ≤ length (now row)) × (0 < set) ⌝ }
+    requires { ⌜ (n ≤ 127) × (128 ≤ length (now found)) × (w ≤ length (now row)) × (0 < situation .set) ⌝ }
     requires { ⌜ (256 ≤ length (now hints)) × Once (take n (now found)) ⌝ }
-    ensures { λ r. ⌜ Visited (imagesMachine (now (images .entry)) valuations w) set (take n (now (found .entry)))
+    ensures { λ r. ⌜ Visited (imagesMachine (now (images .entry)) valuations w) (situation .set) (take n (now (found .entry)))
         (now (found .entry)) (now (row .entry)) r (now (found .exit)) (now (row .exit)) ⌝ }
 {
-    step_all(images, valuations, w, Situation { set }, next);
+    step_all(images, valuations, w, situation, next);
     let mut k = n;
     let mut c = 0;
     while c < w {
@@ -184,11 +190,12 @@ fn explore_in(
     ensures { λ r. ⌜ Reaches (imagesMachine (now (images .entry)) valuations w)
         (now (found .entry)) (now (raw .entry)) r (now (found .exit)) (now (raw .exit)) ⌝ }
 {
-    found[0] = Situation::START.set;
+    let start = Situation::start();
+    found[0] = start.set;
     let mut n = 1;
     let mut s = 0;
     while s < n {
-        let set = found[s];
+        let situation = Situation { set: found[s] };
         let at = s * w;
         n = visit(
             images,
@@ -196,7 +203,7 @@ fn explore_in(
             w,
             found,
             n,
-            set,
+            situation,
             &mut raw[at..],
             next,
             hints,

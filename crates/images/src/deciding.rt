@@ -29,10 +29,11 @@ fn kept(choice: Choice, level: usize) -> Choice
         × (r .rejected .set ≡ kept (choice .best) level (choice .rejected .set)) ⌝ }
 {
     if choice.best < level {
+        let none = Situation::empty();
         return Choice {
             best: level,
-            accepted: Situation::EMPTY,
-            rejected: Situation::EMPTY,
+            accepted: none,
+            rejected: none,
         };
     }
     choice
@@ -61,10 +62,11 @@ fn choose(fits: u64, levels: &[usize], decisions: &[usize], targets: &[usize]) -
     requires { ⌜ Listed fits (now levels) (now decisions) (now targets) ⌝ }
     ensures { λ r. ⌜ Chosen fits (now (levels .entry)) (now (decisions .entry)) (now (targets .entry)) (length (now (levels .entry))) r ⌝ }
 {
+    let none = Situation::empty();
     let mut choice = Choice {
         best: 0,
-        accepted: Situation::EMPTY,
-        rejected: Situation::EMPTY,
+        accepted: none,
+        rejected: none,
     };
     let mut left = fits;
     let mut k = 0;

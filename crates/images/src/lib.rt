@@ -70,7 +70,7 @@ fn fill_events(policy: &[u8], changes: &[u8], bounds: &[usize], values: &[usize]
     while e < n {
         let first = e * step;
         let target = effects::carried_out(policy, changes, first, 1, bounds, values);
-        let reached = Situation::EMPTY.with(target);
+        let reached = Situation::empty().with(target);
         row[e] = reached.set;
         e += 1;
     }

@@ -1,6 +1,7 @@
 // Situations: a set of valuations as the bits of a word.
 ghost use mathlib.Core.Path.{_≡_};
 ghost use Prim.Native.Nat.{_<_};
+ghost use lib.Dec.{eqb};
 ghost use Rattle.definitions.specs.Bytes.{bit};
 ghost use Rattle.definitions.specs.Situation.{emptySet, startSituation, insert, union, isEmpty};
 
@@ -31,6 +32,12 @@ impl Situation {
         ensures { λ r. ⌜ r ≡ isEmpty (self .set) ⌝ }
     {
         self.set == 0
+    }
+
+    pub fn equals(self, other: Situation) -> bool
+        ensures { λ r. ⌜ r ≡ eqb (self .set) (other .set) ⌝ }
+    {
+        self.set == other.set
     }
 
     pub fn has(self, v: usize) -> bool

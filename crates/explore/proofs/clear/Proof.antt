@@ -4,16 +4,18 @@ use Rattle.explore.specs.Images.{noSet}
 use lib.ListN.{length, length-set}
 use native.Mathlib.Omega.{arith}
 use Prim.Native.Nat.{_-_}
-use mathlib.Core.Path.{refl}
 use borrow.Author.Needs.{needs}
 use Rattle.explore.proofs.clear.Statement.{statement}
 use Rattle.explore.proofs.clear.Tie as tie
 
 abbrev Inv-loop : tie.InvT-loop
-Inv-loop next₀ c₀ next c = Filled noSet next₀ c next
+Inv-loop next₀ none c₀ next c = Filled noSet next₀ c next
 
 abbrev μ-loop : tie.MeasureT-loop
-μ-loop next₀ c₀ next c = length next - c
+μ-loop next₀ none c₀ next c = length next - c
+
+empty-requires : tie.Need-empty-requires Inv-loop μ-loop
+empty-requires c κs = search needs
 
 loop-holds : tie.Need-loop-holds Inv-loop μ-loop
 loop-holds c = filled-begun _ _
@@ -31,7 +33,7 @@ loop-less : tie.Need-loop-less Inv-loop μ-loop
 loop-less c = simp length-set (omega arith)
 
 loop-again : tie.Need-loop-again Inv-loop μ-loop
-loop-again c = filled-turn (c .before .loop .inv) (omega (arith, c .before .loop .inv .long)) refl
+loop-again c = filled-turn (c .before .loop .inv) (omega (arith, c .before .loop .inv .long)) (c .before .before .empty .ensures)
 
 same-length : tie.Need-same-length Inv-loop μ-loop
 same-length c = c .before .loop .inv .long
@@ -45,6 +47,7 @@ clear-spec =
     (tie.spec
     Inv-loop
     μ-loop
+    empty-requires
     loop-holds
     mul-next
     slice-write-next

@@ -15,7 +15,7 @@ returns : tie.Need-returns
 returns c =
     let p = c .before .before .before .before in
     let a = p .args in
-    note-found (a .found .now) (a .n) (a .x) (p .pre .0) (p .pre .1) (c .before .place .result) (c .before .place .ensures) (c .if1 .taken)
+    note-found (a .found .now) (a .n) (a .x .set) (p .pre .0) (p .pre .1) (c .before .place .result) (c .before .place .ensures) (c .if1 .taken)
 
 mul-found : tie.Need-mul-found
 mul-found c = search needs
@@ -33,7 +33,7 @@ returns-2 : tie.Need-returns-2
 returns-2 c =
     let p = c .before .before .before .before in
     let a = p .args in
-    note-new (a .found .now) (a .n) (a .x) (p .pre .0) (p .pre .1) (omega (arith, c .before .place .ensures, c .if1 .left))
+    note-new (a .found .now) (a .n) (a .x .set) (p .pre .0) (p .pre .1) (omega (arith, c .before .place .ensures, c .if1 .left))
 
 pub enter-spec : {M : Type 1} → statement M
 enter-spec =

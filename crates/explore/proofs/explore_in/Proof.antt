@@ -32,20 +32,23 @@ sound : (m : Machine) → isState (m .start) ≡ true → Sound m (allReached m)
 unfolding allReached
 sound m = reached-sound m 127
 
+start-requires : tie.Need-start-requires Inv-loop μ-loop
+start-requires c κs = search needs
+
 slice-write-found : tie.Need-slice-write-found Inv-loop μ-loop
 slice-write-found c = search needs
 
 loop-holds : tie.Need-loop-holds Inv-loop μ-loop
 loop-holds c =
-    let p = c .before .before .before .before .before in
+    let p = c .before .before .before .before .before .before in
     let m = imagesMachine (p .args .images .now) (p .args .valuations) (p .args .w) in
-    (reaching-begun m (allReached m) (p .args .found .now) (p .args .raw .now) (p .pre .1 .0) (p .pre .1 .1) (all m) refl (sound m refl), p .pre .0 .2, refl)
+    (rw (c .start .ensures) (reaching-begun m (allReached m) (p .args .found .now) (p .args .raw .now) (p .pre .1 .0) (p .pre .1 .1) (all m) refl (sound m refl)), p .pre .0 .2, refl)
 
-mul-set : tie.Need-mul-set Inv-loop μ-loop
-mul-set c = search needs
+mul-t15 : tie.Need-mul-t15 Inv-loop μ-loop
+mul-t15 c = search needs
 
-slice-read-set : tie.Need-slice-read-set Inv-loop μ-loop
-slice-read-set c = omega (arith, searched-room (c .before .before .loop .inv .0 .search), c .before .before .loop .inv .0 .room, c .before .before .loop .inv .0 .search .few)
+slice-read-t17 : tie.Need-slice-read-t17 Inv-loop μ-loop
+slice-read-t17 c = omega (arith, searched-room (c .before .before .loop .inv .0 .search), c .before .before .loop .inv .0 .room, c .before .before .loop .inv .0 .search .few)
 
 mul-at : tie.Need-mul-at Inv-loop μ-loop
 mul-at c =
@@ -70,7 +73,7 @@ visit-requires : tie.Need-visit-requires Inv-loop μ-loop
 visit-requires c κs =
     let i = c .before .before .before .before .before .before .loop .inv in
     let t = c .before .before .before .before .before .loop-test .taken in
-    let p = c .before .before .before .before .before .before .before .before .before .before .before .before .pre in
+    let p = c .before .before .before .before .before .before .before .before .before .before .before .before .before .pre in
     let h = reaching-row (i .0) t in
     let r = searched-room (i .0 .search) in
     let f = i .0 .room in
@@ -83,20 +86,20 @@ same-length-2 : tie.Need-same-length-2 Inv-loop μ-loop
 same-length-2 c =
     let l = c .before .before .before .before .before .before .before .before .before .before .before .before .before .before .before .before .loop in
     let v = c .before .before .before .before .before .before .before .before .before .visit in
-    let a = l .s * c .before .before .before .before .before .before .before .before .before .before .before .before .before .before .before .before .before .before .before .before .before .before .args .w in
+    let a = l .s * c .before .before .before .before .before .before .before .before .before .before .before .before .before .before .before .before .before .before .before .before .before .before .before .args .w in
     same-len-mid a (length (l .raw) - a) (l .raw) (v .last .1 .1 .1 .1 .1 .1 .0) (v .kept .1 .1 .1 .1 .1 .1 .0) ∙ reaching-long (l .inv .0)
 
 same-length-3 : tie.Need-same-length-3 Inv-loop μ-loop
-same-length-3 c = c .before .before .before .before .before .before .before .before .before .visit .kept .1 .1 .1 .1 .1 .1 .1 .0 ∙ c .before .before .before .before .before .before .before .before .before .before .before .before .before .before .before .before .loop .inv .1 ∙ sym (c .before .before .before .before .before .before .before .before .before .before .before .before .before .before .before .before .before .before .before .before .before .before .pre .0 .2)
+same-length-3 c = c .before .before .before .before .before .before .before .before .before .visit .kept .1 .1 .1 .1 .1 .1 .1 .0 ∙ c .before .before .before .before .before .before .before .before .before .before .before .before .before .before .before .before .loop .inv .1 ∙ sym (c .before .before .before .before .before .before .before .before .before .before .before .before .before .before .before .before .before .before .before .before .before .before .before .pre .0 .2)
 
 same-length-4 : tie.Need-same-length-4 Inv-loop μ-loop
 same-length-4 c = c .before .before .before .before .before .before .before .before .before .visit .kept .1 .1 .1 .1 .1 .1 .1 .1 .0 ∙ c .before .before .before .before .before .before .before .before .before .before .before .before .before .before .before .before .loop .inv .2
 
 returns : tie.Need-returns Inv-loop μ-loop
 returns c =
-    let p = c .before .before .before .before .before .before .before .before .before .before .before .before .before .before .before .before .before .before .before .before .before .before in
+    let p = c .before .before .before .before .before .before .before .before .before .before .before .before .before .before .before .before .before .before .before .before .before .before .before in
     let m = imagesMachine (p .args .images .now) (p .args .valuations) (p .args .w) in
-    reaches-from 1 (omega (arith, p .pre .1 .0)) (sound m refl .some)
+    reaches-from (c .before .before .before .before .before .before .before .before .before .before .before .before .before .before .before .before .before .start .result .set) (omega (arith, p .pre .1 .0)) (sound m refl .some)
     (reaching-over (c .before .before .before .before .before .before .before .before .before .before .before .before .before .before .before .before .loop .inv .0) (c .before .before .before .before .before .before .before .before .before .before .before .before .before .before .before .loop-test .taken) (rw part-is-drop at (c .before .before .before .before .before .before .before .before .before .visit .ensures)) refl (c .if1 .taken))
 
 add-s : tie.Need-add-s Inv-loop μ-loop
@@ -118,16 +121,16 @@ same-length-6 : tie.Need-same-length-6 Inv-loop μ-loop
 same-length-6 c = reaching-long (c .before .loop .inv .0)
 
 same-length-7 : tie.Need-same-length-7 Inv-loop μ-loop
-same-length-7 c = c .before .loop .inv .1 ∙ sym (c .before .before .before .before .before .before .before .pre .0 .2)
+same-length-7 c = c .before .loop .inv .1 ∙ sym (c .before .before .before .before .before .before .before .before .pre .0 .2)
 
 same-length-8 : tie.Need-same-length-8 Inv-loop μ-loop
 same-length-8 c = c .before .loop .inv .2
 
 returns-2 : tie.Need-returns-2 Inv-loop μ-loop
 returns-2 c =
-    let p = c .before .before .before .before .before .before .before in
+    let p = c .before .before .before .before .before .before .before .before in
     let m = imagesMachine (p .args .images .now) (p .args .valuations) (p .args .w) in
-    reaches-from 1 (omega (arith, p .pre .1 .0)) (sound m refl .some) (reaching-done (c .before .loop .inv .0) refl (c .loop-test .left))
+    reaches-from (c .before .before .start .result .set) (omega (arith, p .pre .1 .0)) (sound m refl .some) (reaching-done (c .before .loop .inv .0) refl (c .loop-test .left))
 
 pub explore-in-spec : {M : Type 1} → statement M
 explore-in-spec =
@@ -135,10 +138,11 @@ explore-in-spec =
     (tie.spec
     Inv-loop
     μ-loop
+    start-requires
     slice-write-found
     loop-holds
-    mul-set
-    slice-read-set
+    mul-t15
+    slice-read-t17
     mul-at
     sub-visit
     part-visit-start

@@ -38,16 +38,16 @@ same-length c = search needs
 
 returns-2 : tie.Need-returns-2
 returns-2 c =
-    let p = c .before .before .before .before .before .before .before .before .before in
+    let p = c .before .before .before .before .before .before .before .before .before .before in
     let a = p .args in
     note-hint (a .found .now) (a .n) (a .x .set) (p .pre .0) (p .pre .3) (c .before .before .before .wide .result) (sym (c .before .is-number .ensures) ∙ c .if2 .taken)
 
 enter-requires : tie.Need-enter-requires
-enter-requires c κs = (c .before .before .before .before .before .before .before .before .before .before .pre .0, some (c .before .before .before .before .before .before))
+enter-requires c κs = (c .before .before .before .before .before .before .before .before .before .before .before .pre .0, some (c .before .before .before .before .before .before .before))
 
 cast-hints : tie.Need-cast-hints
 cast-hints c =
-    let p = c .before .before .before .before .before .before .before .before .before .before .before .before .before in
+    let p = c .before .before .before .before .before .before .before .before .before .before .before .before .before .before in
     let h = noted-low (p .args .found .now) (p .args .n) (p .args .x .set) (p .pre .0) (c .before .before .enter .result) (c .before .before .enter .ensures .0) in
     omega (arith, p .pre .1)
 

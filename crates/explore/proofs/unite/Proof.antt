@@ -2,10 +2,10 @@
 use Rattle.automaton.proofs.Filling.{Filled, filled-begun, filled-next, filled-turn, filled-done}
 use Rattle.explore.specs.Images.{unionAt}
 use lib.ListN.{length, getD, length-set}
-use lib.Bits.{bitOr}
+use Rattle.definitions.specs.Situation.{union}
 use native.Mathlib.Omega.{arith}
 use Prim.Native.Nat.{ℕ, _-_, _<_}
-use mathlib.Core.Path.{ap}
+use mathlib.Core.Path.{ap, _∙_}
 use borrow.Author.Needs.{needs}
 use Rattle.explore.proofs.unite.Statement.{statement}
 use Rattle.explore.proofs.unite.Tie as tie
@@ -19,20 +19,23 @@ abbrev μ-loop : tie.MeasureT-loop
 loop-holds : tie.Need-loop-holds Inv-loop μ-loop
 loop-holds c = filled-begun _ _
 
+mul-t6 : tie.Need-mul-t6 Inv-loop μ-loop
+mul-t6 c = search needs
+
+slice-read-t9 : tie.Need-slice-read-t9 Inv-loop μ-loop
+slice-read-t9 c = search needs
+
+mul-t6-2 : tie.Need-mul-t6-2 Inv-loop μ-loop
+mul-t6-2 c = search needs
+
+shared-slice-read-t9 : tie.Need-shared-slice-read-t9 Inv-loop μ-loop
+shared-slice-read-t9 c = omega (arith, c .before .before .before .loop .inv .long)
+
+plus-requires : tie.Need-plus-requires Inv-loop μ-loop
+plus-requires c κs = search needs
+
 mul-next : tie.Need-mul-next Inv-loop μ-loop
 mul-next c = search needs
-
-slice-read-next : tie.Need-slice-read-next Inv-loop μ-loop
-slice-read-next c = search needs
-
-mul-next-2 : tie.Need-mul-next-2 Inv-loop μ-loop
-mul-next-2 c = search needs
-
-shared-slice-read-next : tie.Need-shared-slice-read-next Inv-loop μ-loop
-shared-slice-read-next c = omega (arith, c .before .before .before .loop .inv .long)
-
-mul-next-3 : tie.Need-mul-next-3 Inv-loop μ-loop
-mul-next-3 c = search needs
 
 slice-write-next : tie.Need-slice-write-next Inv-loop μ-loop
 slice-write-next c = search needs
@@ -45,10 +48,10 @@ loop-less c = simp length-set (omega arith)
 
 loop-again : tie.Need-loop-again Inv-loop μ-loop
 loop-again c =
-    let l = c .before .before .before .loop in
-    let more = c .before .before .before .before .args .more .now in
-    let room : l .c < length (c .before .before .before .before .args .next .now) = omega (arith, l .inv .long) in
-    filled-turn (l .inv) room (ap (λ (old : ℕ). bitOr old (getD more (l .c) 0)) (filled-next (l .inv) room))
+    let l = c .before .before .before .before .loop in
+    let a = c .before .before .before .before .before .before .before .args in
+    let room : l .c < length (a .next .now) = omega (arith, l .inv .long) in
+    filled-turn (l .inv) room (c .plus .ensures ∙ ap (λ (old : ℕ). union old (getD (a .more .now) (l .c) 0)) (filled-next (l .inv) room))
 
 same-length : tie.Need-same-length Inv-loop μ-loop
 same-length c = c .before .loop .inv .long
@@ -63,11 +66,12 @@ unite-spec =
     Inv-loop
     μ-loop
     loop-holds
+    mul-t6
+    slice-read-t9
+    mul-t6-2
+    shared-slice-read-t9
+    plus-requires
     mul-next
-    slice-read-next
-    mul-next-2
-    shared-slice-read-next
-    mul-next-3
     slice-write-next
     add-c
     loop-less

@@ -42,6 +42,9 @@ carried-out-requires c κs =
       event-spread (start .args .policy .now) (start .args .changes .now) (variables .result) (c .before .loop .e) (start .pre .1) (variables .ensures .0) (omega arith),
     )
 
+empty-requires : tie.Need-empty-requires Inv-loop μ-loop
+empty-requires c κs = search needs
+
 with-requires : tie.Need-with-requires Inv-loop μ-loop
 with-requires c κs = search needs
 
@@ -59,14 +62,14 @@ loop-less c = search needs
 
 loop-again : tie.Need-loop-again Inv-loop μ-loop
 loop-again c =
-    let start = c .before .before .before .before .before .before .before .before .before .before .before in
-    let variables = c .before .before .before .before .variables in
-    let loop = c .before .before .before .loop in
+    let start = c .before .before .before .before .before .before .before .before .before .before .before .before in
+    let variables = c .before .before .before .before .before .variables in
+    let loop = c .before .before .before .before .loop in
     let a = start .args in
-    let e = event-target (a .policy .now) (a .changes .now) (variables .result) (loop .e) (start .pre .1) (variables .ensures .0) (entryOf (a .values .now)) (c .before .carried-out .result) (c .before .carried-out .ensures .0) in (
+    let e = event-target (a .policy .now) (a .changes .now) (variables .result) (loop .e) (start .pre .1) (variables .ensures .0) (entryOf (a .values .now)) (c .before .before .carried-out .result) (c .before .before .carried-out .ensures .0) in (
       omega arith,
       filled-more 0 0 (loop .e) (eventFrom (a .policy .now) (entryOf (a .values .now))) (a .row .now) (loop .row) (c .with .result .set) (omega arith) (omega arith) (loop .inv .1)
-          (c .with .ensures ∙ ap (λ (u : ℕ). insert u emptySet) e),
+          (c .with .ensures ∙ ap (insert (c .before .before .carried-out .result)) (c .before .empty .ensures) ∙ ap (λ (u : ℕ). insert u emptySet) e),
     )
 
 same-length : tie.Need-same-length Inv-loop μ-loop
@@ -89,6 +92,7 @@ fill-events-spec =
     loop-holds
     mul-first
     carried-out-requires
+    empty-requires
     with-requires
     mul-row
     slice-write-row

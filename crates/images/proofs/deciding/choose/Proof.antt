@@ -18,21 +18,24 @@ abbrev μ-loop : tie.MeasureT-loop
 μ-loop fits levels decisions targets choice₀ left₀ k₀ choice left k = left
 
 member : (c : tie.After-lowest Inv-loop μ-loop)
-    → let start = c .before .before .before .before .before .before in
+    → let start = c .before .before .before .before .before .before .before in
     let loop = c .before .before .loop in
     Member (start .args .fits) (loop .k) (loop .k + c .lowest .result)
 member c =
-    let start = c .before .before .before .before .before .before in
+    let start = c .before .before .before .before .before .before .before in
     let loop = c .before .before .loop in
     lowest-member (start .args .fits) (loop .k) (loop .left) (c .lowest .result) (omega arith) (loop .inv .1) (c .before .loop-test .taken) (c .lowest .ensures)
 
 listed : (c : tie.After-lowest Inv-loop μ-loop)
-    → let start = c .before .before .before .before .before .before in
+    → let start = c .before .before .before .before .before .before .before in
     let m = c .before .before .loop .k + c .lowest .result in
     (m < length (start .args .levels .now)) × (m < length (start .args .decisions .now)) × (m < length (start .args .targets .now)) × (getD (start .args .targets .now) m 0 < 64)
 listed c =
-    let start = c .before .before .before .before .before .before in
+    let start = c .before .before .before .before .before .before .before in
     start .pre (c .before .before .loop .k + c .lowest .result) (member c .here)
+
+empty-requires : tie.Need-empty-requires Inv-loop μ-loop
+empty-requires c κs = search needs
 
 loop-holds : tie.Need-loop-holds Inv-loop μ-loop
 loop-holds c = search needs
@@ -78,7 +81,7 @@ loop-less c =
 
 loop-again : tie.Need-loop-again Inv-loop μ-loop
 loop-again c =
-    let start = c .before .before .before .before .before .before .before .before .before .before in
+    let start = c .before .before .before .before .before .before .before .before .before .before .before in
     let lowest = c .before .before .before .before .lowest in
     let loop = c .before .before .before .before .before .before .loop in
     let a = start .args in
@@ -91,7 +94,7 @@ loop-again c =
 
 returns : tie.Need-returns Inv-loop μ-loop
 returns c =
-    let start = c .before .before .before .before .before in
+    let start = c .before .before .before .before .before .before in
     let loop = c .before .loop in
     let a = start .args in
     chosen-done (a .fits) (a .levels .now) (a .decisions .now) (a .targets .now) (loop .k) (length (a .levels .now)) (loop .choice) (loop .inv .0) (sym (loop .inv .1) ∙ c .loop-test .left) (loop .inv .2)
@@ -102,6 +105,7 @@ choose-spec =
     (tie.spec
     Inv-loop
     μ-loop
+    empty-requires
     loop-holds
     lowest-requires
     add-k
