@@ -1,4 +1,5 @@
-//! Policies with several fields, variables and events and mixed levels: the reference's side of `crates/definitions/specs/Cases/Several.antt`.
+//! Policies with several fields, variables and events and mixed levels: the reference's side of `Several.antt`, `Large.antt` and `Places.antt` in
+//! `crates/definitions/specs/Cases`.
 
 mod common;
 
@@ -10,6 +11,9 @@ const SEVERAL: &[u8] = include_bytes!("../../samples/several.policy");
 
 /// Fields of 4, 2, 4 and 2 values: 64 requests.
 const WIDE: &[u8] = include_bytes!("../../samples/wide.policy");
+
+/// 3 events, fields of 2 values and of 1, 4 variables, 5 rules.
+const MIXED: &[u8] = include_bytes!("../../samples/mixed.policy");
 
 /// The places of the rules' levels in SEVERAL.
 const LEVELS: [usize; 4] = [19, 33, 47, 61];
@@ -69,4 +73,23 @@ fn four_fields() {
 fn contradicting_tests() {
     let policy = with_rule(&policy_a(), "00 02 00 09 02 01 02");
     assert_eq!(book_bytes(&policy), book_bytes(&policy_a()));
+}
+
+/// Each byte in turn holds 255: a rule's masks, decision, level and tests, and the events' changes.
+#[test]
+fn every_place() {
+    let rule = [vec![8; 4], vec![9, 0], vec![9; 12]].concat();
+    let expected = [
+        vec![3, 3, 3, 4, 4, 5, 5, 5, 5, 7, 7],
+        rule.repeat(5),
+        vec![9; 12],
+    ]
+    .concat();
+    let number = |place| refused(&with_byte(MIXED, place, 255)).unwrap_or(0);
+    let numbers: Vec<_> = (0..MIXED.len()).map(number).collect();
+    assert_eq!(numbers, expected);
+    assert_eq!(
+        shelf(MIXED),
+        "states 10\nconflict 1 2 1 5\nmissing 0 1 3\nblocked -\n"
+    );
 }

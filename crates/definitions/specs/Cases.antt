@@ -4,8 +4,10 @@ pub mod Samples
 pub mod Document
 pub mod Several
 pub mod Khoumsi
+pub mod Parts
 pub mod Refusals
 pub mod Limits
+pub mod Places
 pub mod Calls
 pub mod Large
 pub mod Table

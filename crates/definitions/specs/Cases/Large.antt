@@ -3,29 +3,16 @@
 use mathlib.Core.List.{List, [], _∷_, _++_}
 use Prim.Native.Nat.{ℕ}
 use lib.ListN.{length}
-use Rattle.definitions.specs.Policy.{frame}
 use Rattle.definitions.specs.Refusal.{policyRefusal, situations}
 use Rattle.definitions.specs.Build.{bookRows}
 use Rattle.definitions.specs.Shelf.{shelfText}
 use Rattle.definitions.specs.Cases.Claim.{Claim, number, bytes}
 use Rattle.definitions.specs.Cases.Samples.{policy, ruleOf, policyS}
-use Rattle.definitions.specs.Cases.Several.{policyOf, severalWith}
+use Rattle.definitions.specs.Cases.Several.{severalWith, wide}
 
 -- all non-empty sets of 0 and a subset of 1 to 6, or of such a subset alone: S with 6, and a request that leaves 0 out
 abbrev policy127 : List ℕ
 policy127 = policy 0 1 4 (3 ∷ ruleOf 3 1 0 0 1 0 ++ ruleOf 1 1 0 0 1 1 ++ ruleOf 3 1 0 1 6 1 ++ ruleOf 4 1 0 1 0 0)
-
--- Fields of 4, 2, 4 and 2 values, so 64 requests and codes up to 128. The event sets v to zero. Requests below 48 are accepted, and the others while v < 2;
--- request 20 adds one, at a greater level; request 61 may add one; request 63 is rejected from v = 2 on
-abbrev wide : List ℕ
-wide =
-    policyOf 1 (4 ∷ 2 ∷ 4 ∷ 2 ∷ []) 1 5 (
-    0 ∷ 7 ∷ 0 ∷ 3 ∷ 0 ∷ 15 ∷ 0 ∷ 3 ∷ 1 ∷ 0 ∷ 0 ∷ 0 ∷ 0
-    ∷ 0 ∷ 8 ∷ 0 ∷ 3 ∷ 0 ∷ 15 ∷ 0 ∷ 3 ∷ 1 ∷ 0 ∷ 0 ∷ 2 ∷ 0
-    ∷ 0 ∷ 8 ∷ 0 ∷ 2 ∷ 0 ∷ 4 ∷ 0 ∷ 2 ∷ 1 ∷ 0 ∷ 0 ∷ 2 ∷ 1
-    ∷ 0 ∷ 8 ∷ 0 ∷ 2 ∷ 0 ∷ 8 ∷ 0 ∷ 2 ∷ 0 ∷ 0 ∷ 2 ∷ 0 ∷ 0
-    ∷ 0 ∷ 2 ∷ 0 ∷ 1 ∷ 0 ∷ 4 ∷ 0 ∷ 1 ∷ 1 ∷ 1 ∷ 0 ∷ 0 ∷ 1
-    ∷ 2 ∷ [])
 
 -- "states 6", "conflict 63 2 41 123", "missing 48 2 41 41", "blocked -"
 abbrev textOfWide : List ℕ
@@ -66,7 +53,6 @@ largeCases =
     ∷ bytes (shelfText (severalWith 0 1 2 3)) textOfRising
     ∷ bytes (shelfText (severalWith 3 2 1 0)) textOfFalling
     -- four fields; numbers of two and three digits
-    ∷ bytes (frame wide) (1 ∷ 4 ∷ 4 ∷ 2 ∷ 4 ∷ 2 ∷ [])
     ∷ bytes (shelfText wide) textOfWide
     -- S with 6
     ∷ number (length (situations (policyS 6))) 64

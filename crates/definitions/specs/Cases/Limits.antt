@@ -80,7 +80,8 @@ limitCases =
     ∷ number (bookRefusal (bookOfOnes 0 1 (fourCounts 1 0) 127 2)) 0
     ∷ number (bookRefusal (bookOfOnes 0 1 (fourCounts 1 0) 128 2)) 13
     ∷ number (bookRefusal (bookA ++ (0 ∷ []))) 13
-    -- 16: the last state, request and code
+    -- 16: the last state, request and code; more states than codes
+    ∷ number (stepRefusal (bookOfOnes 0 1 (fourCounts 1 0) 127 2) 127 1) 0
     ∷ number (stepRefusal bookA 3 4) 0
     ∷ number (stepRefusal bookA 4 4) 16
     ∷ number (tellRefusal bookA 3 1) 0

@@ -55,5 +55,6 @@ refusalCases =
     ∷ tells (tellAnswer bookA 1 2) (refused 16)
     ∷ tells (tellAnswer bookA 0 0) (refused 16)
     ∷ tells (tellAnswer (set bookA 26 4) 1 0) (refused 14)
+    ∷ tells (tellAnswer (take 26 bookA) 0 9) (refused 13)
     ∷ builds (openAnswer (take 26 bookA)) (refused 13)
     ∷ []

@@ -11,7 +11,7 @@ use Rattle.definitions.specs.Cases.Claim.{Claim, bytes, found}
 use Rattle.definitions.specs.Cases.Samples.{ruleOf, likeA, policyF, policyG, bookA, lent, foundAfter}
 
 -- a policy of E events, fields with these counts, P variables and R rules
-abbrev pub policyOf : ℕ → List ℕ → ℕ → ℕ → List ℕ → List ℕ
+abbrev policyOf : ℕ → List ℕ → ℕ → ℕ → List ℕ → List ℕ
 policyOf E counts P R rest = 0x50 ∷ 0x4F ∷ 0x4C ∷ 0 ∷ 1 ∷ E ∷ length counts ∷ P ∷ R ∷ counts ++ rest
 
 -- Fields of 2, 3 and 2 values. Variable a has the bound 2, b the bound 3. Event 0 sets a to zero, event 1 adds one to b. While b < 3: every request is accepted
@@ -27,8 +27,20 @@ severalWith i j k l =
     ∷ 2 ∷ 0
     ∷ 0 ∷ 1 ∷ [])
 
-abbrev several : List ℕ
+abbrev pub several : List ℕ
 several = severalWith 0 1 3 0
+
+-- Fields of 4, 2, 4 and 2 values, so 64 requests and codes up to 128. The event sets v to zero. Requests below 48 are accepted, and the others while v < 2;
+-- request 20 adds one, at a greater level; request 61 may add one; request 63 is rejected from v = 2 on
+abbrev pub wide : List ℕ
+wide =
+    policyOf 1 (4 ∷ 2 ∷ 4 ∷ 2 ∷ []) 1 5 (
+    0 ∷ 7 ∷ 0 ∷ 3 ∷ 0 ∷ 15 ∷ 0 ∷ 3 ∷ 1 ∷ 0 ∷ 0 ∷ 0 ∷ 0
+    ∷ 0 ∷ 8 ∷ 0 ∷ 3 ∷ 0 ∷ 15 ∷ 0 ∷ 3 ∷ 1 ∷ 0 ∷ 0 ∷ 2 ∷ 0
+    ∷ 0 ∷ 8 ∷ 0 ∷ 2 ∷ 0 ∷ 4 ∷ 0 ∷ 2 ∷ 1 ∷ 0 ∷ 0 ∷ 2 ∷ 1
+    ∷ 0 ∷ 8 ∷ 0 ∷ 2 ∷ 0 ∷ 8 ∷ 0 ∷ 2 ∷ 0 ∷ 0 ∷ 2 ∷ 0 ∷ 0
+    ∷ 0 ∷ 2 ∷ 0 ∷ 1 ∷ 0 ∷ 4 ∷ 0 ∷ 1 ∷ 1 ∷ 1 ∷ 0 ∷ 0 ∷ 1
+    ∷ 2 ∷ [])
 
 abbrev bookOfSeveral : List ℕ
 bookOfSeveral =

@@ -4,10 +4,12 @@ use Rattle.definitions.specs.Cases.Claim.{Claim}
 use Rattle.definitions.specs.Cases.Document.{documentCases}
 use Rattle.definitions.specs.Cases.Several.{severalCases}
 use Rattle.definitions.specs.Cases.Khoumsi.{khoumsiCases}
+use Rattle.definitions.specs.Cases.Parts.{partCases}
 use Rattle.definitions.specs.Cases.Refusals.{refusalCases}
 use Rattle.definitions.specs.Cases.Limits.{limitCases}
+use Rattle.definitions.specs.Cases.Places.{placeCases}
 use Rattle.definitions.specs.Cases.Calls.{callCases}
 use Rattle.definitions.specs.Cases.Large.{largeCases}
 
 abbrev pub cases : List Claim
-cases = callCases ++ refusalCases ++ khoumsiCases ++ documentCases ++ limitCases ++ severalCases ++ largeCases
+cases = partCases ++ callCases ++ refusalCases ++ khoumsiCases ++ placeCases ++ documentCases ++ limitCases ++ severalCases ++ largeCases
