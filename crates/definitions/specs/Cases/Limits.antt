@@ -57,6 +57,8 @@ limitCases =
     ∷ number (policyRefusal (set policyA 15 64)) 9
     ∷ number (policyRefusal (set policyA 16 2)) 0
     ∷ number (policyRefusal (set policyA 31 3)) 9
+    -- the last change of an event, where there are more variables than rules
+    ∷ number (policyRefusal (policy 1 2 1 (1 ∷ 0 ∷ 1 ∷ 1 ∷ 0 ∷ 0 ∷ 0 ∷ 0 ∷ 0 ∷ 0 ∷ 0 ∷ 0 ∷ 3 ∷ []))) 9
     -- 10: 64 valuations pass, 65 do not
     ∷ number (policyRefusal (twoBounds 15 3)) 0
     ∷ number (policyRefusal (twoBounds 12 4)) 10
