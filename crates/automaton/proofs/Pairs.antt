@@ -5,7 +5,7 @@ use mathlib.Core.Bool.{Bool, cond, true, false, false≢true}
 use mathlib.Core.Logic.{inl, inr, _↔_}
 use mathlib.Core.List.{[], _∷_, _++_}
 use mathlib.Core.Option.{Option, none, some}
-use Prim.Native.Nat.{ℕ, zero, suc, _+_, _*_, _-_, _/_, _%_, _≤_, _<_}
+use Prim.Native.Nat.{ℕ, zero, suc, _+_, _*_, _/_, _%_, _≤_, _<_}
 use native.Mathlib.Nat.{add-comm, mul-le-mul-right, add-mul-div-right, div-eq-of-lt, mul-add-mod-self-right, mod-eq-of-lt}
 use native.Mathlib.Omega.{arith}
 use native.Mathlib.Decide.{decLt}
@@ -245,7 +245,7 @@ module _ (A B : Machine) (a b : ℕ) (ofA : HasStates A a) (ofB : HasStates B b)
   pub difference-none : (difference base most A B ≡ none) ↔ Alike A (A .start) B (B .start)
   difference-none = (λ e. rw e at difference-answers, difference-is none)
 
-  pub difference-some : (h : History) → difference base most A B ≡ some h → Earliest (Separates A B) h × (1 ≤ length h) × (length h ≤ a + b - 1)
+  pub difference-some : (h : History) → difference base most A B ≡ some h → Earliest (Separates A B) h × (1 ≤ length h) × (length h < a + b)
   difference-some h e =
       let earliest : Earliest (Separates A B) h = rw e at difference-answers in
-      (earliest, earliest-some A B a b ofA ofB h earliest, omega (arith, earliest-short A B a b ofA ofB h earliest))
+      (earliest, earliest-some A B a b ofA ofB h earliest, earliest-short A B a b ofA ofB h earliest)

@@ -4,7 +4,7 @@ use mathlib.Core.Path.{_≡_, sym, ap, _∙_}
 use mathlib.Core.Logic.{_↔_}
 use mathlib.Core.List.{List}
 use mathlib.Core.Option.{none, some}
-use Prim.Native.Nat.{ℕ, _+_, _-_, _*_, _≤_, _<_}
+use Prim.Native.Nat.{ℕ, _+_, _*_, _≤_, _<_}
 use native.Mathlib.Omega.{arith}
 use lib.ListN.{length, drop}
 use lib.Seq.{getD-take, getD-drop}
@@ -59,7 +59,7 @@ module _ (b d : List ℕ) (first : BookPassed b) (second : BookPassed d) (same :
       (omega (arith, second .layout .statesMost)) room
 
   compared-some : (h : History) → comparison b d ≡ some h
-      → Earliest (Separates (bookMachine b) (bookMachine d)) h × (1 ≤ length h) × (length h ≤ states b + states d - 1)
+      → Earliest (Separates (bookMachine b) (bookMachine d)) h × (1 ≤ length h) × (length h < states b + states d)
   unfolding comparison
   compared-some =
       difference-some (bookMachine b) (bookMachine d) (states b) (states d) (has-states b first) (has-states d second) wide 128 16383
@@ -80,7 +80,5 @@ compare-right b d passes passes′ same =
         same = compared-none b d first second same;
         differ = λ h e. in-just-one b d first second same h (compared-some b d first second same h e .0);
       };
-      short = λ h e.
-          let r = compared-some b d first second same h e in
-          (r .1, omega (arith, r .1, r .2, first .layout .statesSome));
+      short = λ h e. let r = compared-some b d first second same h e in (r .1, r .2);
     }

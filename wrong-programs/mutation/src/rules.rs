@@ -100,7 +100,6 @@ fn module_of(word: &str) -> Option<&'static str> {
         "&&" | "||" | "true" | "false" => Some("mathlib.Core.Bool"),
         "⊎" => Some("mathlib.Core.Logic"),
         "take" | "drop" => Some("lib.ListN"),
-        "none" => Some("mathlib.Core.Option"),
         _ => None,
     }
 }
@@ -319,7 +318,8 @@ impl Rules<'_> {
             self.replace(part, at.clone(), &texts[1]);
         }
         if texts.len() == 2 && head == "some" {
-            self.change(part, at.clone(), "none".to_string(), self.import_of("none"));
+            let known = self.imports.contains("none");
+            self.change(part, at.clone(), "none".to_string(), (!known).then(|| "use mathlib.Core.Option.{none}".to_string()));
         }
         for i in 1..atoms.len() {
             if i + 1 < atoms.len() && !COMMUTATIVE.contains(&head) {

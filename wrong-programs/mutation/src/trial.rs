@@ -3,6 +3,7 @@
 use std::collections::{BTreeMap, BTreeSet, HashMap, HashSet};
 use std::fs;
 use std::io::Write;
+use std::ops::Range;
 use std::path::{Path, PathBuf};
 use std::process::Command;
 use std::sync::atomic::{AtomicUsize, Ordering};
@@ -75,33 +76,59 @@ impl Trial<'_> {
     }
 }
 
-/// The file with each change as a definition of its own after it, and the first line of each: a change that does not type-check is found at its line. The fields of
-/// records are left out.
-fn side_by_side(file: &File, trials: &[&Trial]) -> (String, Vec<Option<usize>>) {
-    let imports: BTreeSet<&String> = trials.iter().filter_map(|t| t.mutant.import.as_ref()).collect();
-    let first = if file.text.starts_with("use ") { 0 } else { file.text.find("\nuse ").map_or(0, |n| n + 1) };
-    let mut text = file.text.clone();
-    for import in imports {
-        text.insert_str(first, &format!("{import}\n"));
+/// The file with each definition once more and each change as a definition of its own after it, and the lines of each: a change that does not type-check is
+/// found at its lines. The fields of records are left out.
+struct SideBySide<'a> {
+    text: String,
+    /// The lines of a definition as it stands.
+    unchanged: HashMap<&'a str, Range<usize>>,
+    /// The lines of each change.
+    changed: Vec<Option<Range<usize>>>,
+}
+
+impl<'a> SideBySide<'a> {
+    fn of(file: &'a File, trials: &[&'a Trial]) -> SideBySide<'a> {
+        let imports: BTreeSet<&String> = trials.iter().filter_map(|t| t.mutant.import.as_ref()).collect();
+        let first = if file.text.starts_with("use ") { 0 } else { file.text.find("\nuse ").map_or(0, |n| n + 1) };
+        let mut text = file.text.clone();
+        for import in imports {
+            text.insert_str(first, &format!("{import}\n"));
+        }
+        let mut all = SideBySide { text, unchanged: HashMap::new(), changed: Vec::new() };
+        for (i, trial) in trials.iter().enumerate() {
+            let name = trial.mutant.definition.as_str();
+            if !all.unchanged.contains_key(name) {
+                let lines = all.add(file, name, &format!("unchanged{i}"), None);
+                all.unchanged.extend(lines.map(|lines| (name, lines)));
+            }
+            let lines = all.add(file, name, &format!("changed{i}"), Some(trial.mutant));
+            all.changed.push(lines);
+        }
+        all
     }
-    let mut lines = Vec::new();
-    for (i, trial) in trials.iter().enumerate() {
-        let Mutant { definition, part, at, new, .. } = trial.mutant;
-        let Some(signature) = file.signatures.get(definition) else {
-            lines.push(None);
-            continue;
-        };
-        let name = format!("changed{i}");
-        text += &format!("\nabbrev {name}{signature}\n");
-        lines.push(Some(text.lines().count()));
+
+    /// A definition under another name, with a change if there is one. Gives its lines.
+    fn add(&mut self, file: &File, definition: &str, name: &str, mutant: Option<&Mutant>) -> Option<Range<usize>> {
+        let signature = file.signatures.get(definition)?;
+        let from = self.text.lines().count();
+        self.text += &format!("\nabbrev {name}{signature}\n");
         for equation in file.equations(definition) {
             let bytes = equation.bytes();
             let patterns = equation.patterns.clone().map_or("", |p| &file.text[p]);
-            let right = if bytes == *part { format!("{}{new}{}", &file.text[bytes.start..at.start], &file.text[at.end..bytes.end]) } else { file.text[bytes].to_string() };
-            text += &format!("{name}{patterns}= {right}\n");
+            let right = match mutant {
+                Some(m) if m.part == bytes => format!("{}{}{}", &file.text[bytes.start..m.at.start], m.new, &file.text[m.at.end..bytes.end]),
+                _ => file.text[bytes].to_string(),
+            };
+            self.text += &format!("{name}{patterns}= {right}\n");
         }
+        Some(from + 1..self.text.lines().count() + 1)
     }
-    (text, lines)
+
+    /// The change does not type-check, and its definition as it stands does.
+    fn untyped(&self, i: usize, definition: &str, wrong: &[usize]) -> bool {
+        let hit = |lines: &Range<usize>| wrong.iter().any(|line| lines.contains(line));
+        self.changed[i].as_ref().is_some_and(hit) && !self.unchanged.get(definition).is_some_and(hit)
+    }
 }
 
 /// The outcomes that are known: a line for each, the key and a word.
@@ -129,33 +156,49 @@ impl Log {
     }
 }
 
-/// Two copies of the repository for one worker. Of a crate with a table of cases one copy has no other proofs, so that a change which a case refuses is refused
-/// in a second, and the other has all but the cases, which were passed already.
+/// Copies of the repository for one worker. Of a crate with a table of cases one copy has no other proofs, so that a change which a case refuses is refused in
+/// a second, and another one all but the cases, which were passed already. One more copy serves the crates without such a table.
 struct Copy {
     folder: PathBuf,
 }
 
 impl Copy {
-    fn of(root: &Path, number: usize, crates: &HashSet<&str>) -> Copy {
-        let copies = Copy { folder: std::env::temp_dir().join(format!("mutation-{}-{number}", std::process::id())) };
-        copy(root, &copies.laws());
+    fn at(number: usize) -> Copy {
+        Copy { folder: std::env::temp_dir().join(format!("mutation-{}-{number}", std::process::id())) }
+    }
+
+    /// Copies in which each of the crates has been checked as it stands.
+    fn made(root: &Path, number: usize, crates: &HashSet<&str>) -> Copy {
+        let copies = Copy::at(number);
         for name in crates {
             let proofs = Path::new("crates").join(name).join("proofs");
             if root.join(&proofs).join("Cases.antt").exists() {
                 copy(root, &copies.cases(name));
                 only_cases(&copies.cases(name).join(&proofs));
-                without_cases(&copies.laws().join(&proofs));
                 let (proved, said) = prover(&copies.cases(name), name);
                 assert!(proved, "the cases of {name} hold as they stand:\n{said}");
+                copy(root, &copies.folder.join(format!("laws-{name}")));
+                without_cases(&copies.laws(name).join(&proofs));
+            } else if !copies.folder.join("laws").exists() {
+                copy(root, &copies.folder.join("laws"));
             }
-            let (proved, said) = prover(&copies.laws(), name);
+            let (proved, said) = prover(&copies.laws(name), name);
             assert!(proved, "{name} is proved as it stands:\n{said}");
         }
         copies
     }
 
-    fn laws(&self) -> PathBuf {
-        self.folder.join("laws")
+    /// The same, taken over.
+    fn again(&self, number: usize) -> Copy {
+        let copies = Copy::at(number);
+        let done = Command::new("cp").arg("-r").arg(&self.folder).arg(&copies.folder).status().expect("cp");
+        assert!(done.success(), "the copies are copied");
+        copies
+    }
+
+    fn laws(&self, name: &str) -> PathBuf {
+        let own = self.folder.join(format!("laws-{name}"));
+        if own.exists() { own } else { self.folder.join("laws") }
     }
 
     fn cases(&self, name: &str) -> PathBuf {
@@ -175,7 +218,7 @@ impl Copy {
         if cases_alone {
             return None;
         }
-        Some(tried(&self.laws(), trial).unwrap_or(Outcome::Survives))
+        Some(tried(&self.laws(name), trial).unwrap_or(Outcome::Survives))
     }
 }
 
@@ -201,10 +244,11 @@ fn sort_out(copy: &Copy, trials: &[&Trial], log: &Log) {
         files.entry(trial.path).or_default().push(trial);
     }
     for (path, trials) in files {
-        let (text, lines) = side_by_side(trials[0].file, &trials);
-        let place = copy.laws().join("crates").join(path);
-        fs::write(&place, text).expect("the changes are written");
-        let (_, said) = prover(&copy.laws(), trials[0].crate_name());
+        let all = SideBySide::of(trials[0].file, &trials);
+        let folder = copy.laws(trials[0].crate_name());
+        let place = folder.join("crates").join(path);
+        fs::write(&place, &all.text).expect("the changes are written");
+        let (_, said) = prover(&folder, trials[0].crate_name());
         fs::write(&place, &trials[0].file.text).expect("the changes are taken back");
         let wrong: Vec<usize> = said
             .lines()
@@ -213,9 +257,7 @@ fn sort_out(copy: &Copy, trials: &[&Trial], log: &Log) {
             .collect();
         let mut untyped = 0;
         for (i, trial) in trials.iter().enumerate() {
-            let Some(from) = lines[i] else { continue };
-            let to = lines[i + 1..].iter().flatten().next().map_or(usize::MAX, |next| *next);
-            if wrong.iter().any(|line| (from..to).contains(line)) {
+            if all.untyped(i, &trial.mutant.definition, &wrong) {
                 log.put(trial.key(), Outcome::Untyped);
                 untyped += 1;
             }
@@ -240,8 +282,8 @@ fn without_cases(proofs: &Path) {
 
 fn copy(root: &Path, folder: &Path) {
     fs::create_dir_all(folder).expect("a folder for a copy");
-    let parts = ["crates", "crates.txt", "target"].map(|p| root.join(p)).into_iter().filter(|p| p.exists());
-    let done = Command::new("cp").arg("-r").args(parts).arg(folder).status().expect("cp");
+    let parts = ["crates", "crates.txt", "target/rlib", "target/stamp", "target/inc"].into_iter().filter(|p| root.join(p).exists());
+    let done = Command::new("cp").args(["-r", "--parents"]).args(parts).arg(folder).current_dir(root).status().expect("cp");
     assert!(done.success(), "the repository is copied");
 }
 
@@ -264,14 +306,15 @@ pub fn run(root: &Path, trials: &[Trial], log: &Log, jobs: usize, cases_alone: b
     if open.is_empty() {
         return;
     }
-    sort_out(&Copy::of(root, jobs, &crates), &open, log);
+    let made = Copy::made(root, jobs, &crates);
+    sort_out(&made, &open, log);
     let open: Vec<&Trial> = open.into_iter().filter(|t| log.get(&t.key()) != Some(Outcome::Untyped)).collect();
     let next = AtomicUsize::new(0);
     std::thread::scope(|scope| {
         for number in 0..jobs {
-            let (open, crates, next) = (&open, &crates, &next);
+            let (open, made, next) = (&open, &made, &next);
             scope.spawn(move || {
-                let copy = Copy::of(root, number, crates);
+                let copy = made.again(number);
                 loop {
                     let i = next.fetch_add(1, Ordering::Relaxed);
                     let Some(trial) = open.get(i) else { break };
