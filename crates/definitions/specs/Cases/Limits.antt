@@ -96,4 +96,6 @@ limitCases =
     ∷ bytes (decimal 99) (57 ∷ 57 ∷ [])
     ∷ bytes (decimal 100) (49 ∷ 48 ∷ 48 ∷ [])
     ∷ bytes (decimal 127) (49 ∷ 50 ∷ 55 ∷ [])
+    ∷ bytes (decimal 198) (49 ∷ 57 ∷ 56 ∷ [])
+    ∷ bytes (decimal 999) (57 ∷ 57 ∷ 57 ∷ [])
     ∷ []
