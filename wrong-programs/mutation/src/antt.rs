@@ -45,7 +45,8 @@ pub fn tokens(text: &str, from: usize, to: usize) -> Vec<Token> {
     while at < to {
         let rest = &text[at..to];
         let c = rest.chars().next().unwrap();
-        let ends = c.is_whitespace() || MARKS.contains(c) || (word.is_none() && rest.starts_with("--"));
+        let ends =
+            c.is_whitespace() || MARKS.contains(c) || (word.is_none() && rest.starts_with("--"));
         if ends {
             if let Some(start) = word.take() {
                 found.push(token(text, start..at));
@@ -69,7 +70,10 @@ pub fn tokens(text: &str, from: usize, to: usize) -> Vec<Token> {
 }
 
 fn token(text: &str, at: Range<usize>) -> Token {
-    Token { text: text[at.clone()].to_string(), at }
+    Token {
+        text: text[at.clone()].to_string(),
+        at,
+    }
 }
 
 impl Part {
@@ -96,22 +100,35 @@ fn path_of(module: &str) -> Option<String> {
 impl File {
     /// The parts of one definition: its equations.
     pub fn equations<'a>(&'a self, definition: &'a str) -> impl Iterator<Item = &'a Part> {
-        self.parts.iter().filter(move |p| p.definition == definition)
+        self.parts
+            .iter()
+            .filter(move |p| p.definition == definition)
     }
 
     pub fn read(text: String) -> File {
-        let mut file = File { text, parts: Vec::new(), declared: Vec::new(), signatures: HashMap::new(), imported: Vec::new(), modules: Vec::new() };
+        let mut file = File {
+            text,
+            parts: Vec::new(),
+            declared: Vec::new(),
+            signatures: HashMap::new(),
+            imported: Vec::new(),
+            modules: Vec::new(),
+        };
         let items = items(&file.text);
         let mut signature: Option<(String, String)> = None;
         for item in items {
             let words = tokens(&file.text, item.start, item.end);
-            let Some(first) = words.first().map(|t| t.text.clone()) else { continue };
+            let Some(first) = words.first().map(|t| t.text.clone()) else {
+                continue;
+            };
             match first.as_str() {
                 "use" => file.import(&words),
                 "unfolding" => {}
                 "pub" if words.get(1).is_some_and(|t| t.text == "mod") => {}
                 "pub" if words.get(1).is_some_and(|t| t.text == "data") => {}
-                "pub" if words.get(1).is_some_and(|t| t.text == "record") => file.record(&words, item),
+                "pub" if words.get(1).is_some_and(|t| t.text == "record") => {
+                    file.record(&words, item)
+                }
                 "abbrev" | "unfoldable" | "pub" => signature = file.signature(&words),
                 _ => file.equation(&words, signature.as_ref()),
             }
@@ -120,7 +137,12 @@ impl File {
     }
 
     fn import(&mut self, words: &[Token]) {
-        let Some(path) = words.get(1).and_then(|t| path_of(t.text.trim_end_matches('.'))) else { return };
+        let Some(path) = words
+            .get(1)
+            .and_then(|t| path_of(t.text.trim_end_matches('.')))
+        else {
+            return;
+        };
         if words.get(2).is_some_and(|t| t.text == "as") {
             self.modules.push((words[3].text.clone(), path));
             return;
@@ -144,28 +166,46 @@ impl File {
     /// `abbrev pub NAME {..} : TYPE`
     fn signature(&mut self, words: &[Token]) -> Option<(String, String)> {
         let colon = words.iter().position(|t| t.text == ":")?;
-        let named = words.iter().find(|t| !matches!(t.text.as_str(), "abbrev" | "unfoldable" | "pub"))?;
+        let named = words
+            .iter()
+            .find(|t| !matches!(t.text.as_str(), "abbrev" | "unfoldable" | "pub"))?;
         let name = named.text.clone();
-        self.signatures.insert(name.clone(), self.text[named.at.end..words.last()?.at.end].to_string());
+        self.signatures.insert(
+            name.clone(),
+            self.text[named.at.end..words.last()?.at.end].to_string(),
+        );
         let kind = joined(&words[colon + 1..]);
-        self.declared.push((words[0].at.start, name.clone(), kind.clone()));
+        self.declared
+            .push((words[0].at.start, name.clone(), kind.clone()));
         Some((name, kind))
     }
 
     fn equation(&mut self, words: &[Token], signature: Option<&(String, String)>) {
-        let Some((name, kind)) = signature else { return };
-        let Some(equals) = words.iter().position(|t| t.text == "=") else { return };
+        let Some((name, kind)) = signature else {
+            return;
+        };
+        let Some(equals) = words.iter().position(|t| t.text == "=") else {
+            return;
+        };
         if words[0].text != *name {
             return;
         }
         let bound = pattern_variables(&words[1..equals], &arguments(kind));
         let patterns = Some(words[0].at.end..words[equals].at.start);
-        self.parts.push(Part { definition: name.clone(), kind: kind.clone(), tokens: words[equals + 1..].to_vec(), bound, patterns });
+        self.parts.push(Part {
+            definition: name.clone(),
+            kind: kind.clone(),
+            tokens: words[equals + 1..].to_vec(),
+            bound,
+            patterns,
+        });
     }
 
     /// A record's fields, each a statement or a plain type.
     fn record(&mut self, words: &[Token], item: Range<usize>) {
-        let Some(opened) = words.iter().position(|t| t.text == "where") else { return };
+        let Some(opened) = words.iter().position(|t| t.text == "where") else {
+            return;
+        };
         let name = words[2].text.clone();
         let mut params = Vec::new();
         binders(&words[3..opened], &mut params);
@@ -180,7 +220,13 @@ impl File {
             let to = starts.get(k + 1).copied().unwrap_or(words.len());
             let field = format!("{name}.{}", words[from + 1].text);
             let tokens = words[from + 3..to].to_vec();
-            self.parts.push(Part { definition: field, kind: String::new(), tokens, bound: params.clone(), patterns: None });
+            self.parts.push(Part {
+                definition: field,
+                kind: String::new(),
+                tokens,
+                bound: params.clone(),
+                patterns: None,
+            });
         }
     }
 }
@@ -190,7 +236,8 @@ fn items(text: &str) -> Vec<Range<usize>> {
     let mut found: Vec<Range<usize>> = Vec::new();
     let mut at = 0;
     for line in text.split_inclusive('\n') {
-        let indented = line.starts_with([' ', '\t']) || line.trim().is_empty() || line.starts_with('}');
+        let indented =
+            line.starts_with([' ', '\t']) || line.trim().is_empty() || line.starts_with('}');
         if indented {
             if let Some(last) = found.last_mut() {
                 last.end = at + line.len();
@@ -221,11 +268,17 @@ fn arguments(kind: &str) -> Vec<String> {
         }
     }
     parts.pop();
-    parts.iter().filter(|p| p.first().is_some_and(|t| t.text != "{")).map(|p| joined(p)).collect()
+    parts
+        .iter()
+        .filter(|p| p.first().is_some_and(|t| t.text != "{"))
+        .map(|p| joined(p))
+        .collect()
 }
 
-const CONSTRUCTORS: [&str; 14] =
-    ["zero", "suc", "true", "false", "none", "some", "[]", "∷", "refused", "given", "accept", "reject", "both", "_"];
+const CONSTRUCTORS: [&str; 14] = [
+    "zero", "suc", "true", "false", "none", "some", "[]", "∷", "refused", "given", "accept",
+    "reject", "both", "_",
+];
 
 /// The variables of the patterns on a left side.
 fn pattern_variables(patterns: &[Token], types: &[String]) -> Vec<(String, Option<String>)> {
@@ -238,8 +291,20 @@ fn pattern_variables(patterns: &[Token], types: &[String]) -> Vec<(String, Optio
             let end = closing(patterns, i);
             let inside = &patterns[i + 1..end];
             let listed = inside.iter().any(|t| t.text == "∷");
-            let element = kind.as_deref().map(|k| if k == "History" { "List ℕ".to_string() } else { k.to_string() });
-            let element = element.and_then(|k| k.split_once(' ').map(|(_, e)| e.trim_start_matches("( ").trim_end_matches(" )").to_string()));
+            let element = kind.as_deref().map(|k| {
+                if k == "History" {
+                    "List ℕ".to_string()
+                } else {
+                    k.to_string()
+                }
+            });
+            let element = element.and_then(|k| {
+                k.split_once(' ').map(|(_, e)| {
+                    e.trim_start_matches("( ")
+                        .trim_end_matches(" )")
+                        .to_string()
+                })
+            });
             for (j, t) in inside.iter().enumerate() {
                 if is_variable(&t.text) {
                     let kind = match () {
@@ -262,7 +327,12 @@ fn pattern_variables(patterns: &[Token], types: &[String]) -> Vec<(String, Optio
 }
 
 fn is_variable(word: &str) -> bool {
-    !CONSTRUCTORS.contains(&word) && word.chars().next().is_some_and(|c| c.is_lowercase() || c.is_uppercase()) && !word.contains('.')
+    !CONSTRUCTORS.contains(&word)
+        && word
+            .chars()
+            .next()
+            .is_some_and(|c| c.is_lowercase() || c.is_uppercase())
+        && !word.contains('.')
 }
 
 /// The place of the bracket that closes the one at `open`; the end, if none does.
@@ -294,10 +364,16 @@ pub fn binders(words: &[Token], bound: &mut Vec<(String, Option<String>)>) {
             continue;
         }
         let inside = &words[open + 1..end];
-        let Some(colon) = inside.iter().position(|t| t.text == ":") else { continue };
+        let Some(colon) = inside.iter().position(|t| t.text == ":") else {
+            continue;
+        };
         if inside[..colon].iter().all(|t| is_variable(&t.text)) {
             let kind = joined(&inside[colon + 1..]);
-            bound.extend(inside[..colon].iter().map(|t| (t.text.clone(), Some(kind.clone()))));
+            bound.extend(
+                inside[..colon]
+                    .iter()
+                    .map(|t| (t.text.clone(), Some(kind.clone()))),
+            );
         }
     }
 }

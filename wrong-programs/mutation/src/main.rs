@@ -2,10 +2,12 @@
 //!
 //!     mutation [--list | --cases] [--jobs N] [--fresh] [--write] [FILE..]
 //!
-//! FILE is a path below `crates/`, as `definitions/specs/Policy.antt`; without one, every file of definitions that a promise rests on is taken, as
-//! `tools/believe --files` lists them. What is known stands in `results.tsv` beside this program, so that a run goes on where the last one broke off: a change
-//! that was refused is tried again only if its definition is another one; `--fresh` forgets everything. `--list` shows the changes and tries none, `--cases`
-//! tries them against the table of cases alone and shows what it lets pass. `--write` puts the table into docs/WRONG-PROGRAMS.md. Survivors that change nothing stand in `equivalent.txt` with the reason. Exit status 1 if another one survives.
+//! FILE is a path below `crates/`, as `definitions/specs/Policy.antt`; without one, every file of definitions that a promise rests on is
+//! taken, as `tools/believe --files` lists them. Outcomes are kept in `results.tsv` beside this program, so that a run goes on where the
+//! last one broke off: a change that was refused is tried again only if its definition is another one. `--fresh` forgets everything.
+//! `--list` shows the changes and tries none, `--cases` tries them against the tables of cases alone and shows what these let pass.
+//! `--write` puts the tables into docs/WRONG-PROGRAMS.md. Survivors that change nothing stand in `equivalent.txt` with the reason. Exit
+//! status 1 if another one survives.
 
 mod antt;
 mod report;
@@ -31,7 +33,14 @@ struct Options {
 }
 
 fn options() -> Option<Options> {
-    let mut chosen = Options { list: false, cases: false, fresh: false, write: false, jobs: 2, files: Vec::new() };
+    let mut chosen = Options {
+        list: false,
+        cases: false,
+        fresh: false,
+        write: false,
+        jobs: 2,
+        files: Vec::new(),
+    };
     let mut words = std::env::args().skip(1);
     while let Some(word) = words.next() {
         match word.as_str() {
@@ -41,7 +50,9 @@ fn options() -> Option<Options> {
             "--write" => chosen.write = true,
             "--jobs" => chosen.jobs = words.next()?.parse().ok().filter(|&n| n > 0)?,
             _ if word.starts_with('-') => return None,
-            _ => chosen.files.push(word.strip_prefix("crates/").unwrap_or(&word).to_string()),
+            _ => chosen
+                .files
+                .push(word.strip_prefix("crates/").unwrap_or(&word).to_string()),
         }
     }
     Some(chosen)
@@ -50,14 +61,25 @@ fn options() -> Option<Options> {
 /// The repository: the folder above this one that has `crates.txt`.
 fn root() -> PathBuf {
     let here = Path::new(env!("CARGO_MANIFEST_DIR"));
-    here.ancestors().find(|f| f.join("crates.txt").exists()).expect("a folder with crates.txt").to_path_buf()
+    here.ancestors()
+        .find(|f| f.join("crates.txt").exists())
+        .expect("a folder with crates.txt")
+        .to_path_buf()
 }
 
 fn believed(root: &Path) -> Vec<String> {
-    let listed = Command::new(root.join("tools/believe")).arg("--files").output().expect("tools/believe");
+    let listed = Command::new(root.join("tools/believe"))
+        .arg("--files")
+        .output()
+        .expect("tools/believe");
     let text = String::from_utf8(listed.stdout).expect("paths");
-    let paths = text.split_whitespace().filter_map(|word| word.strip_prefix("crates/"));
-    paths.filter(|path| path.contains("/specs/") && path.ends_with(".antt")).map(str::to_string).collect()
+    let paths = text
+        .split_whitespace()
+        .filter_map(|word| word.strip_prefix("crates/"));
+    paths
+        .filter(|path| path.contains("/specs/") && path.ends_with(".antt"))
+        .map(str::to_string)
+        .collect()
 }
 
 /// Every name that a file of definitions declares, with its type.
@@ -65,10 +87,23 @@ fn declared(root: &Path) -> Declared {
     let mut found = Vec::new();
     antt_files(&root.join("crates"), &mut found);
     let mut names = Declared::new();
-    for path in found.iter().filter(|p| p.components().any(|c| c.as_os_str() == "specs")) {
+    for path in found
+        .iter()
+        .filter(|p| p.components().any(|c| c.as_os_str() == "specs"))
+    {
         let file = File::read(fs::read_to_string(path).expect("a file of definitions"));
-        let short = path.strip_prefix(root.join("crates")).expect("a path below crates").to_string_lossy().into_owned();
-        names.insert(short, file.declared.into_iter().map(|(_, name, kind)| (name, kind)).collect());
+        let short = path
+            .strip_prefix(root.join("crates"))
+            .expect("a path below crates")
+            .to_string_lossy()
+            .into_owned();
+        names.insert(
+            short,
+            file.declared
+                .into_iter()
+                .map(|(_, name, kind)| (name, kind))
+                .collect(),
+        );
     }
     names
 }
@@ -91,18 +126,36 @@ fn main() -> ExitCode {
     };
     let root = root();
     let names = declared(&root);
-    let paths = if chosen.files.is_empty() { believed(&root) } else { chosen.files.clone() };
+    let paths = if chosen.files.is_empty() {
+        believed(&root)
+    } else {
+        chosen.files.clone()
+    };
     let mut files: BTreeMap<String, (File, Vec<Mutant>)> = BTreeMap::new();
     for path in &paths {
-        let file = File::read(fs::read_to_string(root.join("crates").join(path)).unwrap_or_else(|e| panic!("{path}: {e}")));
+        let file = File::read(
+            fs::read_to_string(root.join("crates").join(path))
+                .unwrap_or_else(|e| panic!("{path}: {e}")),
+        );
         let mutants = rules::mutants(&file, &names);
         files.insert(path.clone(), (file, mutants));
     }
-    let trials: Vec<Trial> =
-        files.iter().flat_map(|(path, (file, mutants))| mutants.iter().map(move |mutant| Trial { path, file, mutant })).collect();
+    let trials: Vec<Trial> = files
+        .iter()
+        .flat_map(|(path, (file, mutants))| {
+            mutants
+                .iter()
+                .map(move |mutant| Trial { path, file, mutant })
+        })
+        .collect();
     if chosen.list {
         for t in &trials {
-            println!("{} {}: {}", t.path, t.mutant.definition, rules::shown(t.file, t.mutant));
+            println!(
+                "{} {}: {}",
+                t.path,
+                t.mutant.definition,
+                rules::shown(t.file, t.mutant)
+            );
         }
         println!("{} changes", trials.len());
         return ExitCode::SUCCESS;
@@ -126,5 +179,9 @@ fn main() -> ExitCode {
     for line in report.complaints() {
         eprintln!("{line}");
     }
-    if report.complaints().is_empty() { ExitCode::SUCCESS } else { ExitCode::FAILURE }
+    if report.complaints().is_empty() {
+        ExitCode::SUCCESS
+    } else {
+        ExitCode::FAILURE
+    }
 }

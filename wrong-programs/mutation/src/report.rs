@@ -19,7 +19,10 @@ impl Reasons {
         let mut known = BTreeMap::new();
         let mut place = String::new();
         let mut changes: Vec<String> = Vec::new();
-        for line in text.lines().filter(|l| !l.starts_with('#') && !l.trim().is_empty()) {
+        for line in text
+            .lines()
+            .filter(|l| !l.starts_with('#') && !l.trim().is_empty())
+        {
             if !line.starts_with(' ') {
                 place = line.trim().to_string();
                 changes.clear();
@@ -44,8 +47,15 @@ struct Count {
 
 impl Count {
     fn row(&self, name: &str) -> String {
-        let Count { by_case, by_law, survive } = self;
-        format!("| {name} | {} | {by_case} | {by_law} | {survive} |\n", by_case + by_law + survive)
+        let Count {
+            by_case,
+            by_law,
+            survive,
+        } = self;
+        format!(
+            "| {name} | {} | {by_case} | {by_law} | {survive} |\n",
+            by_case + by_law + survive
+        )
     }
 }
 
@@ -58,7 +68,11 @@ pub struct Report {
 
 impl Report {
     pub fn of(trials: &[Trial], log: &Log, reasons: &Reasons) -> Report {
-        let mut report = Report { counts: BTreeMap::new(), survivors: Vec::new(), stale: Vec::new() };
+        let mut report = Report {
+            counts: BTreeMap::new(),
+            survivors: Vec::new(),
+            stale: Vec::new(),
+        };
         let mut met = BTreeSet::new();
         let paths: BTreeSet<&str> = trials.iter().map(|t| t.path).collect();
         for trial in trials {
@@ -68,7 +82,10 @@ impl Report {
                 Some(Outcome::ByLaw) => count.by_law += 1,
                 Some(Outcome::Survives) => {
                     count.survive += 1;
-                    let key = (format!("{} {}", trial.path, trial.mutant.definition), shown(trial.file, trial.mutant));
+                    let key = (
+                        format!("{} {}", trial.path, trial.mutant.definition),
+                        shown(trial.file, trial.mutant),
+                    );
                     let reason = reasons.known.get(&key).cloned();
                     met.insert(key.clone());
                     report.survivors.push((key.0, key.1, reason));
@@ -78,7 +95,10 @@ impl Report {
         }
         for key in reasons.known.keys().filter(|k| !met.contains(*k)) {
             if paths.contains(key.0.split(' ').next().unwrap_or_default()) {
-                report.stale.push(format!("a reason for what does not survive: {}: {}", key.0, key.1));
+                report.stale.push(format!(
+                    "a reason for what does not survive: {}: {}",
+                    key.0, key.1
+                ));
             }
         }
         report
@@ -96,14 +116,24 @@ impl Report {
         text += &total.row("together");
         let mut by_reason: BTreeMap<(&str, &str), Vec<&str>> = BTreeMap::new();
         for (place, change, reason) in &self.survivors {
-            by_reason.entry((place, reason.as_deref().unwrap_or("no reason"))).or_default().push(change);
+            by_reason
+                .entry((place, reason.as_deref().unwrap_or("no reason")))
+                .or_default()
+                .push(change);
         }
         if !by_reason.is_empty() {
             text += "\n| definition | what survives | why it changes nothing |\n|---|---|---|\n";
         }
         for ((place, reason), changes) in by_reason {
-            let shown: Vec<String> = changes.iter().map(|c| format!("`{}`", c.replace('|', "\\|"))).collect();
-            text += &format!("| {} | {} | {reason} |\n", place.replace(' ', ": "), shown.join("<br>"));
+            let shown: Vec<String> = changes
+                .iter()
+                .map(|c| format!("`{}`", c.replace('|', "\\|")))
+                .collect();
+            text += &format!(
+                "| {} | {} | {reason} |\n",
+                place.replace(' ', ": "),
+                shown.join("<br>")
+            );
         }
         text
     }
@@ -111,14 +141,29 @@ impl Report {
     /// The table, between its two marks in a document.
     pub fn write(&self, document: &Path) {
         let text = fs::read_to_string(document).expect("the document");
-        let (head, rest) = text.split_once("<!-- mutation -->\n").expect("the mark of the table");
-        let (_, tail) = rest.split_once("<!-- end of mutation -->").expect("the mark after the table");
-        fs::write(document, format!("{head}<!-- mutation -->\n{}<!-- end of mutation -->{tail}", self.table())).expect("the document can be written");
+        let (head, rest) = text
+            .split_once("<!-- mutation -->\n")
+            .expect("the mark of the table");
+        let (_, tail) = rest
+            .split_once("<!-- end of mutation -->")
+            .expect("the mark after the table");
+        fs::write(
+            document,
+            format!(
+                "{head}<!-- mutation -->\n{}<!-- end of mutation -->{tail}",
+                self.table()
+            ),
+        )
+        .expect("the document can be written");
     }
 
     /// Survivors without a reason, and reasons for what does not survive.
     pub fn complaints(&self) -> Vec<String> {
-        let open = self.survivors.iter().filter(|s| s.2.is_none()).map(|s| format!("survives without a reason: {}: {}", s.0, s.1));
+        let open = self
+            .survivors
+            .iter()
+            .filter(|s| s.2.is_none())
+            .map(|s| format!("survives without a reason: {}: {}", s.0, s.1));
         open.chain(self.stale.iter().cloned()).collect()
     }
 }

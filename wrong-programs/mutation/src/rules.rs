@@ -33,21 +33,37 @@ struct Rules<'a> {
 }
 
 pub fn mutants(file: &File, declared: &Declared) -> Vec<Mutant> {
-    let imports = file.text.lines().filter(|l| l.starts_with("use ")).flat_map(|l| l.split([' ', ',', '{', '}']).map(str::to_string)).collect();
-    let mut rules = Rules { file, declared, imports, found: Vec::new() };
+    let imports = file
+        .text
+        .lines()
+        .filter(|l| l.starts_with("use "))
+        .flat_map(|l| l.split([' ', ',', '{', '}']).map(str::to_string))
+        .collect();
+    let mut rules = Rules {
+        file,
+        declared,
+        imports,
+        found: Vec::new(),
+    };
     for (i, part) in file.parts.iter().enumerate() {
         rules.single_tokens(part);
         rules.region(part, 0..part.tokens.len());
         for near in [i.checked_sub(1), Some(i + 1)].into_iter().flatten() {
             if let Some(other) = file.parts.get(near) {
                 if !part.kind.is_empty() && other.kind == part.kind {
-                    rules.replace(part, 0..part.tokens.len(), text_of(file, other, 0..other.tokens.len()));
+                    rules.replace(
+                        part,
+                        0..part.tokens.len(),
+                        text_of(file, other, 0..other.tokens.len()),
+                    );
                 }
             }
         }
     }
     let mut seen = HashSet::new();
-    rules.found.retain(|m| file.text[m.at.clone()] != m.new && seen.insert((m.at.clone(), m.new.clone())));
+    rules
+        .found
+        .retain(|m| file.text[m.at.clone()] != m.new && seen.insert((m.at.clone(), m.new.clone())));
     rules.found.sort_by_key(|m| m.at.start);
     rules.found
 }
@@ -58,9 +74,22 @@ fn text_of<'a>(file: &'a File, part: &Part, tokens: Range<usize>) -> &'a str {
 
 /// How loosely an operator binds, from 0 on.
 fn level(word: &str) -> Option<usize> {
-    let levels: [&[&str]; 10] =
-        [&["→"], &["↔"], &["⊎"], &["×"], &["≡", "<", "≤"], &["||"], &["&&"], &["++", "∷"], &["+", "-"], &["*", "/", "%"]];
-    levels.iter().position(|ops| ops.contains(&word)).or((word == "^").then_some(10))
+    let levels: [&[&str]; 10] = [
+        &["→"],
+        &["↔"],
+        &["⊎"],
+        &["×"],
+        &["≡", "<", "≤"],
+        &["||"],
+        &["&&"],
+        &["++", "∷"],
+        &["+", "-"],
+        &["*", "/", "%"],
+    ];
+    levels
+        .iter()
+        .position(|ops| ops.contains(&word))
+        .or((word == "^").then_some(10))
 }
 
 /// What an operator, a test or a constructor may become, with the module of the name.
@@ -117,14 +146,26 @@ impl Rules<'_> {
     }
 
     fn change(&mut self, part: &Part, tokens: Range<usize>, new: String, import: Option<String>) {
-        let bytes = |tokens: Range<usize>| part.tokens[tokens.start].at.start..part.tokens[tokens.end - 1].at.end;
-        self.found.push(Mutant { definition: part.definition.clone(), part: bytes(0..part.tokens.len()), at: bytes(tokens), new, import });
+        let bytes = |tokens: Range<usize>| {
+            part.tokens[tokens.start].at.start..part.tokens[tokens.end - 1].at.end
+        };
+        self.found.push(Mutant {
+            definition: part.definition.clone(),
+            part: bytes(0..part.tokens.len()),
+            at: bytes(tokens),
+            new,
+            import,
+        });
     }
 
     /// The import that makes a name known, if it is not.
     fn import_of(&self, word: &str) -> Option<String> {
         let infix = format!("_{word}_");
-        let name = if word.chars().all(|c| c.is_alphanumeric()) { word } else { &infix };
+        let name = if word.chars().all(|c| c.is_alphanumeric()) {
+            word
+        } else {
+            &infix
+        };
         let module = module_of(word)?;
         (!self.imports.contains(name)).then(|| format!("use {module}.{{{name}}}"))
     }
@@ -162,7 +203,10 @@ impl Rules<'_> {
         if let Some((_, kind)) = scope.iter().rev().find(|(name, _)| name == word) {
             let others: Vec<String> = scope
                 .iter()
-                .filter(|(name, other)| name != word && (kind.is_none() || other.is_none() || plain(kind) == plain(other)))
+                .filter(|(name, other)| {
+                    name != word
+                        && (kind.is_none() || other.is_none() || plain(kind) == plain(other))
+                })
                 .map(|(name, _)| name.clone())
                 .collect();
             for other in others {
@@ -172,9 +216,18 @@ impl Rules<'_> {
         }
         // of the names of its type, in the order of their declarations, the one before and the one after
         let names = self.defined(part);
-        let Some((_, kind)) = names.iter().find(|(name, _)| name == word) else { return };
-        let alike: Vec<&String> = names.iter().filter(|(name, other)| other == kind && name.contains('.') == word.contains('.')).map(|(name, _)| name).collect();
-        let place = alike.iter().position(|name| *name == word).unwrap_or_default();
+        let Some((_, kind)) = names.iter().find(|(name, _)| name == word) else {
+            return;
+        };
+        let alike: Vec<&String> = names
+            .iter()
+            .filter(|(name, other)| other == kind && name.contains('.') == word.contains('.'))
+            .map(|(name, _)| name)
+            .collect();
+        let place = alike
+            .iter()
+            .position(|name| *name == word)
+            .unwrap_or_default();
         for near in [place.wrapping_sub(1), place + 1] {
             if let Some(other) = alike.get(near) {
                 self.change(part, i..i + 1, other.to_string(), None);
@@ -195,7 +248,11 @@ impl Rules<'_> {
             if words[k].text == "λ" {
                 while k + 1 < i && !words[k].text.ends_with('.') {
                     k += 1;
-                    if words[k].text.chars().all(|c| c.is_alphanumeric() || c == '.') {
+                    if words[k]
+                        .text
+                        .chars()
+                        .all(|c| c.is_alphanumeric() || c == '.')
+                    {
                         scope.push((words[k].text.trim_end_matches('.').to_string(), None));
                     }
                 }
@@ -209,16 +266,27 @@ impl Rules<'_> {
     fn defined(&self, part: &Part) -> Vec<(String, String)> {
         let mut names = Vec::new();
         for (here, path, there) in &self.file.imported {
-            let found = self.declared.get(path).and_then(|d| d.iter().position(|(name, _)| name == there).map(|at| (path, at, here, &d[at].1)));
+            let found = self.declared.get(path).and_then(|d| {
+                d.iter()
+                    .position(|(name, _)| name == there)
+                    .map(|at| (path, at, here, &d[at].1))
+            });
             names.extend(found);
         }
         names.sort();
-        let mut names: Vec<(String, String)> = names.into_iter().map(|(_, _, here, kind)| (here.clone(), kind.clone())).collect();
+        let mut names: Vec<(String, String)> = names
+            .into_iter()
+            .map(|(_, _, here, kind)| (here.clone(), kind.clone()))
+            .collect();
         for (here, path) in &self.file.modules {
             let all = self.declared.get(path).into_iter().flatten();
             names.extend(all.map(|(there, kind)| (format!("{here}.{there}"), kind.clone())));
         }
-        let own = self.file.declared.iter().filter(|(at, name, _)| *at < part.tokens[0].at.start && *name != part.definition);
+        let own = self
+            .file
+            .declared
+            .iter()
+            .filter(|(at, name, _)| *at < part.tokens[0].at.start && *name != part.definition);
         names.extend(own.map(|(_, name, kind)| (name.clone(), kind.clone())));
         names
     }
@@ -270,7 +338,9 @@ impl Rules<'_> {
             }
             i += 1;
         }
-        let Some(loosest) = ops.iter().map(|o| o.0).min() else { return self.call(part, at) };
+        let Some(loosest) = ops.iter().map(|o| o.0).min() else {
+            return self.call(part, at);
+        };
         let cuts: Vec<usize> = ops.iter().filter(|o| o.0 == loosest).map(|o| o.1).collect();
         let mut operands = Vec::new();
         let mut from = at.start;
@@ -289,18 +359,32 @@ impl Rules<'_> {
     }
 
     /// An operand is left out, or two are swapped.
-    fn operands(&mut self, part: &Part, at: &Range<usize>, cuts: &[usize], operands: &[Range<usize>]) {
+    fn operands(
+        &mut self,
+        part: &Part,
+        at: &Range<usize>,
+        cuts: &[usize],
+        operands: &[Range<usize>],
+    ) {
         let words = &part.tokens;
         let op = words[cuts[0]].text.as_str();
         let one_kind = cuts.iter().all(|&c| words[c].text == op);
         if !one_kind {
             return;
         }
-        let texts: Vec<String> = operands.iter().map(|o| text_of(self.file, part, o.clone()).to_string()).collect();
+        let texts: Vec<String> = operands
+            .iter()
+            .map(|o| text_of(self.file, part, o.clone()).to_string())
+            .collect();
         let glue = format!(" {op} ");
         if matches!(op, "&&" | "||" | "+" | "*" | "++" | "×" | "⊎" | "∷") {
             for out in 0..texts.len() {
-                let left: Vec<&str> = texts.iter().enumerate().filter(|(k, _)| *k != out).map(|(_, t)| t.as_str()).collect();
+                let left: Vec<&str> = texts
+                    .iter()
+                    .enumerate()
+                    .filter(|(k, _)| *k != out)
+                    .map(|(_, t)| t.as_str())
+                    .collect();
                 self.replace(part, at.clone(), &left.join(&glue));
             }
         }
@@ -312,21 +396,32 @@ impl Rules<'_> {
     /// A call: a head and its arguments.
     fn call(&mut self, part: &Part, at: Range<usize>) {
         let atoms = atoms(&part.tokens, at.clone());
-        let texts: Vec<String> = atoms.iter().map(|a| text_of(self.file, part, a.clone()).to_string()).collect();
+        let texts: Vec<String> = atoms
+            .iter()
+            .map(|a| text_of(self.file, part, a.clone()).to_string())
+            .collect();
         let head = texts[0].as_str();
         if texts.len() == 2 && matches!(head, "suc" | "not") {
             self.replace(part, at.clone(), &texts[1]);
         }
         if texts.len() == 2 && head == "some" {
             let known = self.imports.contains("none");
-            self.change(part, at.clone(), "none".to_string(), (!known).then(|| "use mathlib.Core.Option.{none}".to_string()));
+            self.change(
+                part,
+                at.clone(),
+                "none".to_string(),
+                (!known).then(|| "use mathlib.Core.Option.{none}".to_string()),
+            );
         }
         for i in 1..atoms.len() {
             if i + 1 < atoms.len() && !COMMUTATIVE.contains(&head) {
                 let both = atoms[i].start..atoms[i + 1].end;
                 self.replace(part, both, &format!("{} {}", texts[i + 1], texts[i]));
             }
-            for j in [i - 1, i + 1].into_iter().filter(|&j| j > 0 && j < atoms.len()) {
+            for j in [i - 1, i + 1]
+                .into_iter()
+                .filter(|&j| j > 0 && j < atoms.len())
+            {
                 let bracket = texts[i].starts_with('(') || texts[j].starts_with('(');
                 if bracket {
                     self.replace(part, atoms[i].clone(), &texts[j]);
@@ -376,7 +471,11 @@ impl Rules<'_> {
 
 /// The second argument of the call whose head stands at `i` is 0.
 fn tests_zero(words: &[Token], i: usize) -> bool {
-    let end = if words[i + 1].text == "(" { closing(words, i + 1) + 1 } else { i + 2 };
+    let end = if words[i + 1].text == "(" {
+        closing(words, i + 1) + 1
+    } else {
+        i + 2
+    };
     words.get(end).is_some_and(|t| t.text == "0")
 }
 
@@ -388,7 +487,9 @@ fn atoms(words: &[Token], at: Range<usize>) -> Vec<Range<usize>> {
         let from = i;
         match words[i].text.as_str() {
             "(" | "{" => i = closing(words, i),
-            "record" if words.get(i + 1).is_some_and(|t| t.text == "{") => i = closing(words, i + 1),
+            "record" if words.get(i + 1).is_some_and(|t| t.text == "{") => {
+                i = closing(words, i + 1)
+            }
             _ => {}
         }
         i += 1;
@@ -424,7 +525,10 @@ fn binding_tokens(words: &[Token]) -> HashSet<usize> {
                 let end = closing(words, i);
                 if let Some(colon) = (i + 1..end).find(|&k| words[k].text == ":") {
                     let names = i + 1..colon;
-                    if words[names.clone()].iter().all(|t| t.text.chars().all(char::is_alphanumeric)) {
+                    if words[names.clone()]
+                        .iter()
+                        .all(|t| t.text.chars().all(char::is_alphanumeric))
+                    {
                         found.extend(names);
                     }
                 }
@@ -468,64 +572,4 @@ fn surroundings(text: &str, at: &Range<usize>) -> (usize, usize) {
 }
 
 #[cfg(test)]
-mod tests {
-    use super::*;
-
-    /// The changes of a small file: what a definition's text becomes, for each.
-    fn changes(text: &str) -> Vec<String> {
-        let file = File::read(text.to_string());
-        let declared = Declared::new();
-        let whole = |m: &Mutant| format!("{}{}{}", &text[..m.at.start], m.new, &text[m.at.end..]);
-        mutants(&file, &declared).iter().map(whole).map(|t| t.lines().last().unwrap_or_default().to_string()).collect()
-    }
-
-    fn made(text: &str, wanted: &[&str]) {
-        let found = changes(text);
-        for line in wanted {
-            assert!(found.iter().any(|f| f == line), "{line} is not among {found:#?}");
-        }
-    }
-
-    #[test]
-    fn numerals() {
-        assert_eq!(changes("abbrev pub f : ℕ\nf = 7"), ["f = 8", "f = 6"]);
-        assert_eq!(changes("abbrev pub f : ℕ\nf = 0x0"), ["f = 1"]);
-    }
-
-    #[test]
-    fn variables_of_one_type() {
-        let text = "abbrev pub f : ℕ → List ℕ → ℕ → ℕ\nf a b c = g b a";
-        made(text, &["f a b c = g b c", "f a b c = g a b"]);
-        assert!(!changes(text).contains(&"f a b c = g a a".to_string()), "a list is no number");
-    }
-
-    #[test]
-    fn operators_and_operands() {
-        made("abbrev pub f : ℕ → ℕ\nf a = a + 2 * a", &["f a = a - 2 * a", "f a = a * 2 * a", "f a = a + 2 + a", "f a = a", "f a = 2 * a", "f a = a + a"]);
-        made("abbrev pub f : ℕ → Bool\nf a = ltb a 2 && g a", &["f a = leb a 2 && g a", "f a = ltb a 2 || g a", "f a = g a", "f a = ltb 2 a && g a"]);
-        made("abbrev pub f : ℕ → ℕ\nf a = a - 1", &["f a = 1 - a", "f a = a + 1"]);
-    }
-
-    #[test]
-    fn branches_and_constructors() {
-        made("abbrev pub f : Bool → ℕ → ℕ\nf t a = cond t (g a) (h a)", &["f t a = cond t (h a) (g a)", "f t a = cond t (h a) (h a)", "f t a = cond t (g a) (g a)"]);
-        made("abbrev pub f : ℕ → Option ℕ\nf a = some (suc a)", &["f a = none", "f a = some (a)"]);
-    }
-
-    #[test]
-    fn neighbouring_equations_and_fields() {
-        made("abbrev pub f : ℕ → ℕ\nf zero = 3\nf (suc n) = n", &["f (suc n) = 3"]);
-        made("abbrev pub f : ℕ → R\nf a = record { x = g a; y = h a }", &["f a = record { x = h a; y = h a }", "f a = record { x = g a; y = g a }"]);
-    }
-
-    #[test]
-    fn names_of_one_type() {
-        let text = "abbrev pub g : ℕ → ℕ\ng a = a\n\nabbrev pub h : ℕ → ℕ\nh a = a\n\nabbrev pub f : ℕ → ℕ\nf a = g a";
-        made(text, &["f a = h a"]);
-    }
-
-    #[test]
-    fn statements() {
-        made("pub record R (n : ℕ) : Type 0 where\n  pub short : (k : ℕ) → k < n", &["  pub short : (k : ℕ) → k ≤ n", "  pub short : (k : ℕ) → n < k", "  pub short : (k : ℕ) → k < k"]);
-    }
-}
+mod tests;

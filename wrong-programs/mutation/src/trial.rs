@@ -23,7 +23,12 @@ pub enum Outcome {
     Survives,
 }
 
-const OUTCOMES: [Outcome; 4] = [Outcome::Untyped, Outcome::ByCase, Outcome::ByLaw, Outcome::Survives];
+const OUTCOMES: [Outcome; 4] = [
+    Outcome::Untyped,
+    Outcome::ByCase,
+    Outcome::ByLaw,
+    Outcome::Survives,
+];
 
 impl Outcome {
     fn word(self) -> &'static str {
@@ -50,10 +55,22 @@ pub struct Trial<'a> {
 impl Trial<'_> {
     /// What names the change in the log: it stays the same while the definition does.
     pub fn key(&self) -> String {
-        let Mutant { definition, at, new, part, .. } = self.mutant;
+        let Mutant {
+            definition,
+            at,
+            new,
+            part,
+            ..
+        } = self.mutant;
         let mut sum = 0xcbf29ce484222325u64;
         let place = format!("{} {}", at.start - part.start, at.end - part.start);
-        let parts = [self.path, definition, &self.file.text[part.clone()], &place, new];
+        let parts = [
+            self.path,
+            definition,
+            &self.file.text[part.clone()],
+            &place,
+            new,
+        ];
         for byte in parts.join("\n").bytes() {
             sum = (sum ^ u64::from(byte)).wrapping_mul(0x100000001b3);
         }
@@ -67,9 +84,18 @@ impl Trial<'_> {
     /// The file with the change.
     fn text(&self) -> String {
         let at = &self.mutant.at;
-        let mut text = format!("{}{}{}", &self.file.text[..at.start], self.mutant.new, &self.file.text[at.end..]);
+        let mut text = format!(
+            "{}{}{}",
+            &self.file.text[..at.start],
+            self.mutant.new,
+            &self.file.text[at.end..]
+        );
         if let Some(import) = &self.mutant.import {
-            let first = if text.starts_with("use ") { 0 } else { text.find("\nuse ").map_or(0, |n| n + 1) };
+            let first = if text.starts_with("use ") {
+                0
+            } else {
+                text.find("\nuse ").map_or(0, |n| n + 1)
+            };
             text.insert_str(first, &format!("{import}\n"));
         }
         text
@@ -88,13 +114,24 @@ struct SideBySide<'a> {
 
 impl<'a> SideBySide<'a> {
     fn of(file: &'a File, trials: &[&'a Trial]) -> SideBySide<'a> {
-        let imports: BTreeSet<&String> = trials.iter().filter_map(|t| t.mutant.import.as_ref()).collect();
-        let first = if file.text.starts_with("use ") { 0 } else { file.text.find("\nuse ").map_or(0, |n| n + 1) };
+        let imports: BTreeSet<&String> = trials
+            .iter()
+            .filter_map(|t| t.mutant.import.as_ref())
+            .collect();
+        let first = if file.text.starts_with("use ") {
+            0
+        } else {
+            file.text.find("\nuse ").map_or(0, |n| n + 1)
+        };
         let mut text = file.text.clone();
         for import in imports {
             text.insert_str(first, &format!("{import}\n"));
         }
-        let mut all = SideBySide { text, unchanged: HashMap::new(), changed: Vec::new() };
+        let mut all = SideBySide {
+            text,
+            unchanged: HashMap::new(),
+            changed: Vec::new(),
+        };
         for (i, trial) in trials.iter().enumerate() {
             let name = trial.mutant.definition.as_str();
             if !all.unchanged.contains_key(name) {
@@ -108,7 +145,13 @@ impl<'a> SideBySide<'a> {
     }
 
     /// A definition under another name, with a change if there is one. Gives its lines.
-    fn add(&mut self, file: &File, definition: &str, name: &str, mutant: Option<&Mutant>) -> Option<Range<usize>> {
+    fn add(
+        &mut self,
+        file: &File,
+        definition: &str,
+        name: &str,
+        mutant: Option<&Mutant>,
+    ) -> Option<Range<usize>> {
         let signature = file.signatures.get(definition)?;
         let from = self.text.lines().count();
         self.text += &format!("\nabbrev {name}{signature}\n");
@@ -116,7 +159,12 @@ impl<'a> SideBySide<'a> {
             let bytes = equation.bytes();
             let patterns = equation.patterns.clone().map_or("", |p| &file.text[p]);
             let right = match mutant {
-                Some(m) if m.part == bytes => format!("{}{}{}", &file.text[bytes.start..m.at.start], m.new, &file.text[m.at.end..bytes.end]),
+                Some(m) if m.part == bytes => format!(
+                    "{}{}{}",
+                    &file.text[bytes.start..m.at.start],
+                    m.new,
+                    &file.text[m.at.end..bytes.end]
+                ),
                 _ => file.text[bytes].to_string(),
             };
             self.text += &format!("{name}{patterns}= {right}\n");
@@ -127,7 +175,8 @@ impl<'a> SideBySide<'a> {
     /// The change does not type-check, and its definition as it stands does.
     fn untyped(&self, i: usize, definition: &str, wrong: &[usize]) -> bool {
         let hit = |lines: &Range<usize>| wrong.iter().any(|line| lines.contains(line));
-        self.changed[i].as_ref().is_some_and(hit) && !self.unchanged.get(definition).is_some_and(hit)
+        self.changed[i].as_ref().is_some_and(hit)
+            && !self.unchanged.get(definition).is_some_and(hit)
     }
 }
 
@@ -140,8 +189,15 @@ pub struct Log {
 impl Log {
     pub fn open(path: PathBuf) -> Log {
         let text = fs::read_to_string(&path).unwrap_or_default();
-        let known = text.lines().filter_map(|l| l.split_once('\t')).filter_map(|(k, w)| Some((k.to_string(), Outcome::of(w)?))).collect();
-        Log { path, known: Mutex::new(known) }
+        let known = text
+            .lines()
+            .filter_map(|l| l.split_once('\t'))
+            .filter_map(|(k, w)| Some((k.to_string(), Outcome::of(w)?)))
+            .collect();
+        Log {
+            path,
+            known: Mutex::new(known),
+        }
     }
 
     pub fn get(&self, key: &str) -> Option<Outcome> {
@@ -150,7 +206,11 @@ impl Log {
 
     fn put(&self, key: String, outcome: Outcome) {
         let mut known = self.known.lock().unwrap();
-        let mut file = fs::OpenOptions::new().create(true).append(true).open(&self.path).expect("the log can be written");
+        let mut file = fs::OpenOptions::new()
+            .create(true)
+            .append(true)
+            .open(&self.path)
+            .expect("the log can be written");
         writeln!(file, "{key}\t{}", outcome.word()).expect("the log can be written");
         known.insert(key, outcome);
     }
@@ -164,7 +224,9 @@ struct Copy {
 
 impl Copy {
     fn at(number: usize) -> Copy {
-        Copy { folder: std::env::temp_dir().join(format!("mutation-{}-{number}", std::process::id())) }
+        Copy {
+            folder: std::env::temp_dir().join(format!("mutation-{}-{number}", std::process::id())),
+        }
     }
 
     /// Copies in which each of the crates has been checked as it stands.
@@ -191,14 +253,23 @@ impl Copy {
     /// The same, taken over.
     fn again(&self, number: usize) -> Copy {
         let copies = Copy::at(number);
-        let done = Command::new("cp").arg("-r").arg(&self.folder).arg(&copies.folder).status().expect("cp");
+        let done = Command::new("cp")
+            .arg("-r")
+            .arg(&self.folder)
+            .arg(&copies.folder)
+            .status()
+            .expect("cp");
         assert!(done.success(), "the copies are copied");
         copies
     }
 
     fn laws(&self, name: &str) -> PathBuf {
         let own = self.folder.join(format!("laws-{name}"));
-        if own.exists() { own } else { self.folder.join("laws") }
+        if own.exists() {
+            own
+        } else {
+            self.folder.join("laws")
+        }
     }
 
     fn cases(&self, name: &str) -> PathBuf {
@@ -229,7 +300,9 @@ fn tried(folder: &Path, trial: &Trial) -> Option<Outcome> {
     let (proved, said) = prover(folder, trial.crate_name());
     fs::write(&place, &trial.file.text).expect("the change is taken back");
     let specs = format!("crates/{}/specs/", trial.crate_name());
-    let untyped = said.lines().any(|l| l.contains(&specs) && l.contains(": error: "));
+    let untyped = said
+        .lines()
+        .any(|l| l.contains(&specs) && l.contains(": error: "));
     match (proved, untyped) {
         (true, _) => None,
         (false, true) => Some(Outcome::Untyped),
@@ -253,7 +326,14 @@ fn sort_out(copy: &Copy, trials: &[&Trial], log: &Log) {
         let wrong: Vec<usize> = said
             .lines()
             .filter(|l| l.contains(": error: "))
-            .filter_map(|l| l.split_once(&format!("crates/{path}:"))?.1.split(':').next()?.parse().ok())
+            .filter_map(|l| {
+                l.split_once(&format!("crates/{path}:"))?
+                    .1
+                    .split(':')
+                    .next()?
+                    .parse()
+                    .ok()
+            })
             .collect();
         let mut untyped = 0;
         for (i, trial) in trials.iter().enumerate() {
@@ -262,7 +342,10 @@ fn sort_out(copy: &Copy, trials: &[&Trial], log: &Log) {
                 untyped += 1;
             }
         }
-        eprintln!("{path}: {untyped} of {} changes do not type-check", trials.len());
+        eprintln!(
+            "{path}: {untyped} of {} changes do not type-check",
+            trials.len()
+        );
     }
 }
 
@@ -276,21 +359,44 @@ fn only_cases(proofs: &Path) {
 
 fn without_cases(proofs: &Path) {
     let root = fs::read_to_string(proofs.join("Lib.antt")).expect("the root of the proofs");
-    fs::write(proofs.join("Lib.antt"), root.replace("pub mod Cases\n", "")).expect("the root of the proofs");
+    fs::write(proofs.join("Lib.antt"), root.replace("pub mod Cases\n", ""))
+        .expect("the root of the proofs");
     fs::remove_file(proofs.join("Cases.antt")).expect("the table of cases is removed");
 }
 
 fn copy(root: &Path, folder: &Path) {
     fs::create_dir_all(folder).expect("a folder for a copy");
-    let parts = ["crates", "crates.txt", "target/rlib", "target/stamp", "target/inc"].into_iter().filter(|p| root.join(p).exists());
-    let done = Command::new("cp").args(["-r", "--parents"]).args(parts).arg(folder).current_dir(root).status().expect("cp");
+    let parts = [
+        "crates",
+        "crates.txt",
+        "target/rlib",
+        "target/stamp",
+        "target/inc",
+    ]
+    .into_iter()
+    .filter(|p| root.join(p).exists());
+    let done = Command::new("cp")
+        .args(["-r", "--parents"])
+        .args(parts)
+        .arg(folder)
+        .current_dir(root)
+        .status()
+        .expect("cp");
     assert!(done.success(), "the repository is copied");
 }
 
 /// Whether the prover lets a crate pass, and its words. It takes what an earlier run has checked and the change does not touch.
 fn prover(folder: &Path, name: &str) -> (bool, String) {
-    let done = Command::new("rt").args(["dev", name]).env("RT_JOBS", "1").current_dir(folder).output().expect("rt");
-    (done.status.success(), String::from_utf8_lossy(&done.stdout).into_owned() + &String::from_utf8_lossy(&done.stderr))
+    let done = Command::new("rt")
+        .args(["dev", name])
+        .env("RT_JOBS", "1")
+        .current_dir(folder)
+        .output()
+        .expect("rt");
+    (
+        done.status.success(),
+        String::from_utf8_lossy(&done.stdout).into_owned() + &String::from_utf8_lossy(&done.stderr),
+    )
 }
 
 impl Drop for Copy {
@@ -301,14 +407,20 @@ impl Drop for Copy {
 
 /// Tries every change whose outcome is not known, `jobs` at a time. A change that survived is tried again: what refuses it may have been added.
 pub fn run(root: &Path, trials: &[Trial], log: &Log, jobs: usize, cases_alone: bool) {
-    let open: Vec<&Trial> = trials.iter().filter(|t| matches!(log.get(&t.key()), None | Some(Outcome::Survives))).collect();
+    let open: Vec<&Trial> = trials
+        .iter()
+        .filter(|t| matches!(log.get(&t.key()), None | Some(Outcome::Survives)))
+        .collect();
     let crates: HashSet<&str> = open.iter().map(|t| t.crate_name()).collect();
     if open.is_empty() {
         return;
     }
     let made = Copy::made(root, jobs, &crates);
     sort_out(&made, &open, log);
-    let open: Vec<&Trial> = open.into_iter().filter(|t| log.get(&t.key()) != Some(Outcome::Untyped)).collect();
+    let open: Vec<&Trial> = open
+        .into_iter()
+        .filter(|t| log.get(&t.key()) != Some(Outcome::Untyped))
+        .collect();
     let next = AtomicUsize::new(0);
     std::thread::scope(|scope| {
         for number in 0..jobs {
@@ -320,7 +432,12 @@ pub fn run(root: &Path, trials: &[Trial], log: &Log, jobs: usize, cases_alone: b
                     let Some(trial) = open.get(i) else { break };
                     let outcome = copy.outcome(trial, cases_alone);
                     if matches!(outcome, None | Some(Outcome::Survives)) {
-                        println!("survives: {} {}: {}", trial.path, trial.mutant.definition, shown(trial.file, trial.mutant));
+                        println!(
+                            "survives: {} {}: {}",
+                            trial.path,
+                            trial.mutant.definition,
+                            shown(trial.file, trial.mutant)
+                        );
                     }
                     if i % 100 == 99 {
                         eprintln!("{} of {} tried", i + 1, open.len());
