@@ -12,6 +12,7 @@
 mod antt;
 mod report;
 mod rules;
+mod side_by_side;
 mod trial;
 
 use std::collections::BTreeMap;
