@@ -1,11 +1,12 @@
 //! Changes the believed definitions by rule, one place at a time (mutation testing), and tries whether the crate refuses each change.
 //!
-//!     mutation [--list | --cases] [--jobs N] [--fresh] [--write] [FILE..]
+//!     mutation [--list | --cases | --known] [--jobs N] [--fresh] [--write] [FILE..]
 //!
 //! FILE is a path below `crates/`, as `definitions/specs/Policy.antt`; without one, every file of definitions that a promise rests on is
 //! taken, as `tools/believe --files` lists them. Outcomes are kept in `results.tsv` beside this program, so that a run goes on where the
 //! last one broke off: a change that was refused is tried again only if its definition is another one. `--fresh` forgets everything.
-//! `--list` shows the changes and tries none, `--cases` tries them against the tables of cases alone and shows what these let pass.
+//! `--list` shows the changes and tries none, `--cases` tries them against the tables of cases alone and shows what these let pass,
+//! `--known` tries none and tells what is known.
 //! `--write` puts the tables into docs/WRONG-PROGRAMS.md. Survivors that change nothing stand in `equivalent.txt` with the reason. Exit
 //! status 1 if another one survives.
 
@@ -27,6 +28,7 @@ use trial::{Log, Trial};
 struct Options {
     list: bool,
     cases: bool,
+    known: bool,
     fresh: bool,
     write: bool,
     jobs: usize,
@@ -37,6 +39,7 @@ fn options() -> Option<Options> {
     let mut chosen = Options {
         list: false,
         cases: false,
+        known: false,
         fresh: false,
         write: false,
         jobs: 2,
@@ -47,6 +50,7 @@ fn options() -> Option<Options> {
         match word.as_str() {
             "--list" => chosen.list = true,
             "--cases" => chosen.cases = true,
+            "--known" => chosen.known = true,
             "--fresh" => chosen.fresh = true,
             "--write" => chosen.write = true,
             "--jobs" => chosen.jobs = words.next()?.parse().ok().filter(|&n| n > 0)?,
@@ -122,7 +126,9 @@ fn antt_files(folder: &Path, found: &mut Vec<PathBuf>) {
 
 fn main() -> ExitCode {
     let Some(chosen) = options() else {
-        eprintln!("usage: mutation [--list | --cases] [--jobs N] [--fresh] [--write] [FILE..]");
+        eprintln!(
+            "usage: mutation [--list | --cases | --known] [--jobs N] [--fresh] [--write] [FILE..]"
+        );
         return ExitCode::from(2);
     };
     let root = root();
@@ -167,7 +173,9 @@ fn main() -> ExitCode {
         let _ = fs::remove_file(&results);
     }
     let log = Log::open(results);
-    trial::run(&root, &trials, &log, chosen.jobs, chosen.cases);
+    if !chosen.known {
+        trial::run(&root, &trials, &log, chosen.jobs, chosen.cases);
+    }
     if chosen.cases {
         return ExitCode::SUCCESS;
     }
