@@ -37,25 +37,16 @@ numbersHold test [] = true
 numbersHold test (row m passes ∷ later) = test m && numbersHold test later
 
 module _ (x : List ℕ) where
-  front : (n : ℕ) (rows : List Check) (A : Type 0) → With n rows x A → A
-  front n [] A h = h
-  front n (row m passes ∷ later) A h = go (eqb n m) (front n later (A × (passes x ≡ true))) h
+  decided : (n : ℕ) (rows : List Check) (A : Type 0) → With n rows x A → A × (refusalBy rows x ≡ refusalBy (rowsFrom n rows) x)
+  decided n [] A h = (h, refl)
+  decided n (row m passes ∷ later) A h = go (eqb n m) (decided n later (A × (passes x ≡ true))) h
     where
-      go : (b : Bool) → (With n later x (A × (passes x ≡ true)) → A × (passes x ≡ true)) → choice b A (With n later x (A × (passes x ≡ true))) → A
-      go true earlier h = h
-      go false earlier h = earlier h .0
-
-  decided : (n : ℕ) (rows : List Check) (A : Type 0) → With n rows x A → refusalBy rows x ≡ refusalBy (rowsFrom n rows) x
-  decided n [] A h = refl
-  decided n (row m passes ∷ later) A h =
-      go (eqb n m) (front n later (A × (passes x ≡ true))) (decided n later (A × (passes x ≡ true))) h
-    where
-      go : (b : Bool) → (With n later x (A × (passes x ≡ true)) → A × (passes x ≡ true))
-          → (With n later x (A × (passes x ≡ true)) → refusalBy later x ≡ refusalBy (rowsFrom n later) x)
+      go : (b : Bool)
+          → (With n later x (A × (passes x ≡ true)) → (A × (passes x ≡ true)) × (refusalBy later x ≡ refusalBy (rowsFrom n later) x))
           → choice b A (With n later x (A × (passes x ≡ true)))
-          → judge m (passes x) (refusalBy later x) ≡ refusalBy (cond b (row m passes ∷ later) (rowsFrom n later)) x
-      go true earlier same h = refl
-      go false earlier same h = rw (earlier h .1) (same h)
+          → A × (judge m (passes x) (refusalBy later x) ≡ refusalBy (cond b (row m passes ∷ later) (rowsFrom n later)) x)
+      go true rest h = (h, refl)
+      go false rest h = let r = rest h in (r .0 .0, rw (r .0 .1) (r .1))
 
   stops : (n : ℕ) (rows : List Check) → testOf n rows x ≡ false → refusalBy (rowsFrom n rows) x ≡ n
   stops n [] e = absurd (true≢false e)
@@ -92,7 +83,7 @@ module _ (x : List ℕ) where
 module _ {n : ℕ} {rows : List Check} {x : List ℕ} (before : PassedBefore n rows x) where
   -- where the rows before row n pass, that row and those after it decide
   pub rows-from : refusalBy rows x ≡ refusalBy (rowsFrom n rows) x
-  rows-from = decided x n rows Unit (before .passed)
+  rows-from = decided x n rows Unit (before .passed) .1
 
   -- and where its test fails, its number is returned
   pub row-refuses : testOf n rows x ≡ false → n ≡ refusalBy rows x

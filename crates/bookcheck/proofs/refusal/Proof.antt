@@ -1,7 +1,5 @@
 -- `refusal` meets its contract: the rows are judged in order.
 use mathlib.Core.Path.{sym}
-use mathlib.Core.List.{List}
-use Prim.Native.Nat.{ℕ}
 use borrow.Author.Needs.{needs}
 use Rattle.definitions.specs.Refusal.{bookChecks, bookRefusal}
 use Rattle.definitions.proofs.Tests.{held, failed}
@@ -10,9 +8,6 @@ use Rattle.definitions.proofs.Accepted.{layout-true}
 use Rattle.bookcheck.proofs.Checks.{marked-long}
 use Rattle.bookcheck.proofs.refusal.Statement.{statement}
 use Rattle.bookcheck.proofs.refusal.Tie as tie
-
-begun : (b : List ℕ) → PassedBefore 12 bookChecks b
-begun b = record { passed = tt }
 
 -- ---- the rows that have passed where the code goes on
 past12 : (c : tie.Else1) → PassedBefore 13 bookChecks (c .before .before .before .args .book .now)
@@ -29,7 +24,7 @@ is-marked-requires c κs = search needs
 
 returns : tie.Need-returns
 unfolding bookRefusal
-returns c = row-refuses (begun (c .before .before .before .args .book .now)) (failed _ _ (c .before .is-marked .ensures) (c .if1 .taken))
+returns c = simp (failed _ _ (c .before .is-marked .ensures) (c .if1 .taken))
 
 is-laid-out-requires : tie.Need-is-laid-out-requires
 is-laid-out-requires c κs = marked-long (c .before .before .before .args .book .now) (past12 c .passed .1)

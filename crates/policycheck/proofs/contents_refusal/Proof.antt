@@ -1,6 +1,4 @@
 -- `contents_refusal` meets its contract: the rows are judged in order.
-use mathlib.Core.List.{List}
-use Prim.Native.Nat.{ℕ}
 use mathlib.Core.Path.{sym}
 use borrow.Author.Needs.{needs}
 use Rattle.definitions.specs.Refusal.{contentChecks}
@@ -9,9 +7,6 @@ use Rattle.definitions.proofs.CheckLists.{PassedBefore, row-refuses, rows-from}
 use Rattle.policy.proofs.Parts.{lent-table}
 use Rattle.policycheck.proofs.contents_refusal.Statement.{statement}
 use Rattle.policycheck.proofs.contents_refusal.Tie as tie
-
-begun : (p : List ℕ) → PassedBefore 7 contentChecks p
-begun p = record { passed = tt }
 
 -- ---- the rows that have passed where the code goes on
 past7 : (c : tie.Else1) → PassedBefore 8 contentChecks (c .before .before .before .args .policy .now)
@@ -30,7 +25,7 @@ counts-hold-requires : tie.Need-counts-hold-requires
 counts-hold-requires c κs = search needs
 
 returns : tie.Need-returns
-returns c = row-refuses (begun (c .before .before .before .args .policy .now)) (failed _ _ (c .before .counts-hold .ensures) (c .if1 .taken))
+returns c = simp (failed _ _ (c .before .counts-hold .ensures) (c .if1 .taken))
 
 fields-requires : tie.Need-fields-requires
 fields-requires c κs = search needs

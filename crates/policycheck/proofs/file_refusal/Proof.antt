@@ -1,6 +1,4 @@
 -- `file_refusal` meets its contract: the rows are judged in order.
-use mathlib.Core.List.{List}
-use Prim.Native.Nat.{ℕ}
 use mathlib.Core.Path.{sym, _∙_}
 use borrow.Author.Tests.{le-leb, lt-leb}
 use borrow.Author.Needs.{needs}
@@ -10,9 +8,6 @@ use Rattle.definitions.proofs.CheckLists.{PassedBefore, row-refuses, rows-from}
 use Rattle.policy.proofs.Checked.{sized}
 use Rattle.policycheck.proofs.file_refusal.Statement.{statement}
 use Rattle.policycheck.proofs.file_refusal.Tie as tie
-
-begun : (p : List ℕ) → PassedBefore 2 fileChecks p
-begun p = record { passed = tt }
 
 -- ---- the rows that have passed where the code goes on
 past2 : (c : tie.Else1) → PassedBefore 3 fileChecks (c .before .before .args .policy .now)
@@ -32,7 +27,7 @@ past6 c = record { passed = (past5 (c .before .before) .passed, held _ _ (c .bef
 
 returns : tie.Need-returns
 unfolding fileRefusal
-returns c = row-refuses (begun (c .before .before .args .policy .now)) (lt-leb 9 _ (c .if1 .taken))
+returns c = simp (lt-leb 9 _ (c .if1 .taken))
 
 mark-holds-requires : tie.Need-mark-holds-requires
 mark-holds-requires c κs = search needs
