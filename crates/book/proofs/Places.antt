@@ -4,6 +4,7 @@ use mathlib.Core.List.{List}
 use Prim.Native.Nat.{ℕ, suc, _+_, _-_, _*_, _≤_, _<_}
 use native.Mathlib.Omega.{arith}
 use lib.ListN.{length}
+use lib.Seq.{getD-drop}
 use Rattle.automaton.proofs.Loops.{row-within}
 use Rattle.definitions.specs.Bytes.{byte}
 use Rattle.definitions.specs.Book.{states, width, entry}
@@ -22,4 +23,4 @@ module _ (b : List ℕ) (laid : BookLayout b) (w : ℕ) (same : w ≡ width b) w
 
 -- entry c of row i, counted from 0
 pub entry-at : (b : List ℕ) (i c : ℕ) → entry b (suc i) c ≡ byte b (12 + i * width b + c)
-entry-at b i c = let e : suc i - 1 ≡ i = omega arith in rw e
+entry-at b i c = let e : suc i - 1 ≡ i = omega arith in rw e (getD-drop (12 + i * width b) b c 0)

@@ -83,7 +83,7 @@ module _ (frame : List ℕ) (rows : List (List ℕ)) (six : length frame ≡ 6) 
           let before : suc i - 1 ≡ i = omega arith in
           let row : (suc i - 1) * B.width (bookBytes frame rows) ≡ i * w = ap₂ (λ (x y : ℕ). x * y) before same in
           let place : 12 + (suc i - 1) * B.width (bookBytes frame rows) + c ≡ 12 + (i * w + c) = omega arith in
-          ap (byte (bookBytes frame rows)) place ∙ byte-of-rows (i * w + c) ∙ concat-at w rows wide i c most l
+          getD-drop (12 + (suc i - 1) * B.width (bookBytes frame rows)) (bookBytes frame rows) c 0 ∙ ap (byte (bookBytes frame rows)) place ∙ byte-of-rows (i * w + c) ∙ concat-at w rows wide i c most l
 
       module _ (ok : IsTable w rows) where
         -- the bytes' machine takes the steps of the table

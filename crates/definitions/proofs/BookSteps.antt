@@ -1,5 +1,5 @@
 -- The machine of a book that the checks pass: its states are the numbers of its rows, and every list of events is possible in each.
-use mathlib.Core.Path.{_≡_, refl}
+use mathlib.Core.Path.{_≡_, refl, _∙_}
 use mathlib.Core.Bool.{Bool, cond, true, false, not}
 use mathlib.Core.List.{List, [], _∷_}
 use Prim.Native.Nat.{ℕ, zero, suc, _+_, _-_, _*_, _≤_, _<_}
@@ -8,6 +8,7 @@ use native.Mathlib.Omega.{arith}
 use native.Mathlib.Decide.{decLt}
 use lib.Dec.{ltb, eqb}
 use lib.ListN.{length, List·getD-eq-default}
+use lib.Seq.{getD-drop}
 use borrow.Author.Tests.{ltb-true, lt-ltb, ne-eqb}
 use Rattle.automaton.specs.History.{History}
 use Rattle.automaton.specs.Machine.{step, after, isState}
@@ -30,7 +31,7 @@ step-is-entry b s c some l = step-next (bookMachine b) s c (is-state s some) l
 module _ (b : List ℕ) (ok : BookPassed b) where
   -- past the rows there are no entries
   entry-past : (i c : ℕ) → states b ≤ i → entry b (suc i) c ≡ 0
-  entry-past i c l = List·getD-eq-default b 0 past
+  entry-past i c l = getD-drop (12 + (suc i - 1) * width b) b c 0 ∙ List·getD-eq-default b 0 past
     where
       past : length b ≤ 12 + (suc i - 1) * width b + c
       past =

@@ -1,10 +1,12 @@
 -- `entry` meets its contract: its place is within the book.
 use Prim.Native.Nat.{ℕ, _+_, _-_, _*_, _<_}
-use mathlib.Core.Path.{ap, _∙_}
+use mathlib.Core.Path.{sym, ap, _∙_}
 use native.Mathlib.Omega.{arith}
 use lib.ListN.{length}
+use lib.Seq.{getD-drop}
 use borrow.Author.Needs.{needs}
 use Rattle.definitions.specs.Bytes.{byte}
+use Rattle.definitions.specs.Book.{width}
 use Rattle.book.proofs.Places.{inside}
 use Rattle.book.proofs.layout.entry.Statement.{statement}
 use Rattle.book.proofs.layout.entry.Tie as tie
@@ -36,6 +38,7 @@ returns : tie.Need-returns
 returns c =
     let a = c .before .before .before .args in
     c .wide .ensures .0 ∙ ap (λ (w : ℕ). byte (a .book .now) (12 + (a .s - 1) * w + a .c)) (c .before .before .before .pre .1 .0 .0)
+    ∙ sym (getD-drop (12 + (a .s - 1) * width (a .book .now)) (a .book .now) (a .c) 0)
 
 pub entry-spec : {M : Type 1} → statement M
 entry-spec =
