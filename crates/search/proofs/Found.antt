@@ -17,7 +17,8 @@ use Rattle.automaton.proofs.Exploring.{number-end, stateAt, historyAt as reache
 use Rattle.automaton.proofs.Congruence.{list-below-same}
 use Rattle.automaton.proofs.Machines.{is-state, state-is}
 use Rattle.automaton.proofs.Separating.{HasStates, after-within}
-use Rattle.automaton.proofs.Parents.{Falls, Stored, trail-same, trail-last, falls-stored}
+use Rattle.automaton.specs.Parents.{Falls}
+use Rattle.automaton.proofs.Parents.{Stored, trail-same, trail-last, falls-stored}
 use Rattle.definitions.specs.Bytes.{byte}
 use Rattle.search.specs.Trail.{firstAt, secondAt, placed, historyAt}
 use Rattle.search.specs.Found.{reachedAt, foundIn, Holds, numberOf, Arrays}

@@ -16,10 +16,10 @@ use Rattle.automaton.proofs.Separating.{HasStates}
 use Rattle.definitions.specs.Bytes.{byte}
 use Rattle.definitions.specs.Book.{width, states, bookMachine}
 use Rattle.definitions.specs.Verdict.{statesReached}
-use Rattle.definitions.proofs.Accepted.{BookPassed}
+use Rattle.definitions.specs.Checked.{BookPassed}
 use Rattle.definitions.proofs.BookSteps.{step-is-entry, entry-past}
-use Rattle.tables.specs.Rows.{rowsIn, TableIn}
-use Rattle.tables.proofs.TableBytes.{rows-count, entry-is, bytes-are-table}
+use Rattle.definitions.specs.Rows.{rowsIn, TableIn}
+use Rattle.definitions.proofs.TableBytes.{rows-count, entry-is, bytes-are-table}
 use Rattle.book.proofs.Places.{Column, column-of, entry-at}
 use Rattle.search.specs.Found.{SmallTable, rowsMachine, statesOf}
 use Rattle.search.proofs.Found.{reached-inside, reached-most}
@@ -66,10 +66,10 @@ module _ (b : List ℕ) (p : BookPassed b) where
   rows-long = rw length-drop (omega (arith, p .layout .exact))
 
   rows-are : length (drop 12 b) / w ≡ states b
-  rows-are = ap (λ (k : ℕ). k / w) rows-long ∙ mul-div-cancel (states b) (omega (arith, p .layout .requestsSome))
+  rows-are = ap (λ (k : ℕ). k / w) rows-long ∙ mul-div-cancel (states b) (omega (arith, p .layout .header .requestsSome))
 
   book-table : TableIn (drop 12 b) (states b) w
-  book-table = record { some = p .layout .statesSome; whole = omega (arith, rows-long); entries = λ j l. at j (column-of (states b) w j l) }
+  book-table = record { some = p .layout .header .statesSome; whole = omega (arith, rows-long); entries = λ j l. at j (column-of (states b) w j l) }
     where
       at : (j : ℕ) → Column (states b) w j → byte (drop 12 b) j ≤ states b
       at j here =
@@ -78,7 +78,7 @@ module _ (b : List ℕ) (p : BookPassed b) where
           rw (getD-drop 12 b j 0, ← e, ← entry-at b i (here .column)) (p .entryMost (suc i) (here .column) (omega arith) (here .inRow) (here .inWidth))
 
   pub book-rows : SmallTable (drop 12 b) w
-  book-rows = record { table = rw rows-are book-table; few = rw rows-are (p .layout .statesMost); narrow = omega (arith, p .layout .widthMost) }
+  book-rows = record { table = rw rows-are book-table; few = rw rows-are (p .layout .header .statesMost); narrow = omega (arith, p .layout .header .widthMost) }
 
   book-step : (s c : ℕ) → step (rowsMachine (drop 12 b) w) s c ≡ step (bookMachine b) s c
   book-step zero c = refl

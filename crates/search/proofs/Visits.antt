@@ -13,7 +13,7 @@ use Rattle.automaton.proofs.Exploring.{Front, front-at, front-length, visit-fro
 use Rattle.automaton.proofs.Parents.{trail-start}
 use Rattle.automaton.proofs.Turns.{visit-grows, ToCome, to-come-begun, to-come-turn, to-come-front, to-come-done}
 use Rattle.definitions.specs.Bytes.{byte}
-use Rattle.tables.proofs.TableBytes.{state-row, state-entry}
+use Rattle.definitions.proofs.TableBytes.{state-row, state-entry}
 use Rattle.search.specs.Trail.{firstAt, secondAt, historyAt}
 use Rattle.search.specs.Found.{SmallTable, rowsMachine, statesOf, reachedAt, foundIn, Holds, numberOf, Arrays, visitedAt, CanVisit}
 use Rattle.search.proofs.TableRows.{rows-step, states-few, states-inside}

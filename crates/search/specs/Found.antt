@@ -7,9 +7,9 @@ use Rattle.automaton.specs.Below.{listBelow}
 use Rattle.automaton.specs.Machine.{Machine}
 use Rattle.automaton.specs.Explore.{Reached, numberIn, visit, reached}
 use Rattle.automaton.specs.Table.{tabled}
-use Rattle.automaton.proofs.Parents.{Falls}
+use Rattle.automaton.specs.Parents.{Falls}
 use Rattle.definitions.specs.Bytes.{byte}
-use Rattle.tables.specs.Rows.{rowsIn, TableIn}
+use Rattle.definitions.specs.Rows.{rowsIn, TableIn}
 use Rattle.search.specs.Trail.{firstAt, historyAt}
 
 -- ---- tables that a search takes
