@@ -6,8 +6,8 @@ use denote.Ref.{RefT, now}
 use Rattle.definitions.specs.Refusal.{bookRefusal}
 use Rattle.definitions.specs.Opened.{openRefusal, walkState}
 use Rattle.walk.specs.Walk.{openState}
-use Rattle.walk.proofs.Histories.{walked}
-use Rattle.walk.proofs.Walking.{open-refused, open-starts, step-refused, tell-refused}
+use Rattle.walk.proofs.StepLists.{walked}
+use Rattle.walk.proofs.CallCases.{open-refused, open-starts, step-refused, tell-refused}
 use Rattle.opened.specs.declared.OpenedBook.{OpenedBook}
 use Rattle.opened.specs.declared.Opened.{Opened}
 use Rattle.opened.specs.Calls.{openOf, stepOf, Run, Leads, StaysClosed}

@@ -1,20 +1,20 @@
--- What the calls on an opened book answer, case by case.
+-- The cases of the calls on an opened book: what each answers where the book is refused, where row 16 is, and where none is.
 use mathlib.Core.Path.{_≡_, ap, sym, _∙_}
-use mathlib.Core.Bool.{not, true, false, _&&_}
+use mathlib.Core.Bool.{true, false, _&&_}
 use mathlib.Core.List.{List}
-use Prim.Native.Nat.{ℕ, _+_, _*_, _≤_, _<_}
+use Prim.Native.Nat.{ℕ, _<_}
 use native.Mathlib.Omega.{arith}
 use lib.Dec.{eqb, ltb}
 use borrow.Author.Tests.{eq-eqb, ne-eqb, lt-ltb}
 use Rattle.automaton.specs.Machine.{step, isState}
 use Rattle.definitions.specs.Answer.{refused, given}
-use Rattle.definitions.specs.Book.{events, requests, width, entry, bookMachine}
+use Rattle.definitions.specs.Book.{requests, width, bookMachine}
 use Rattle.definitions.specs.Refusal.{bookRefusal}
-use Rattle.definitions.specs.Telling.{toTelling, telling}
+use Rattle.definitions.specs.Telling.{telling}
 use Rattle.definitions.specs.Opened.{stateHolds, openRefusal, tellRefusal, tellAnswer, stepRefusal, stepState}
 use Rattle.walk.specs.Walk.{openState}
 use Rattle.definitions.proofs.Answers.{refused-answer}
-use Rattle.definitions.proofs.BookSteps.{state-test, is-state, step-is-entry}
+use Rattle.definitions.proofs.BookSteps.{is-state}
 
 module _ (b : List ℕ) where
   pub open-refused : (n : ℕ) → n ≡ bookRefusal b → (n ≡ 0 → ⊥) → (n ≡ openRefusal b) × (0 ≡ openState b)
@@ -38,13 +38,6 @@ module _ (b : List ℕ) where
     pub tell-inside : bookRefusal b ≡ 0 → stateHolds b s ≡ true → r < requests b → given (telling b s r) ≡ tellAnswer b s r
     unfolding tellAnswer tellRefusal
     tell-inside e h l = rw (e, h, lt-ltb r (requests b) l)
-
-    -- the two entries of a request
-    pub tell-by : (e x y : ℕ) → 1 ≤ s → r < requests b → e ≡ events b → x ≡ entry b s (e + 2 * r) → y ≡ entry b s (e + 2 * r + 1)
-        → toTelling (not (eqb x 0)) (not (eqb y 0)) ≡ telling b s r
-    unfolding telling
-    tell-by e x y some l he hx hy =
-        rw (state-test x, state-test y, hx, hy, he, step-is-entry b s (events b + 2 * r) some (omega arith), step-is-entry b s (events b + 2 * r + 1) some (omega arith))
 
   -- ---- a step
   module _ (s c : ℕ) where
