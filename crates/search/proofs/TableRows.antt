@@ -1,13 +1,15 @@
 -- The machine of a table given as the bytes of its rows: its steps are entries. The rows of a book that passes are such a table, with the book's machine.
-use mathlib.Core.Path.{_≡_, refl, sym, ap, _∙_}
+use mathlib.Core.Path.{_≡_, refl, sym, ap, _∙_, subst}
 use mathlib.Core.List.{List}
 use Prim.Native.Nat.{ℕ, zero, suc, _+_, _-_, _*_, _/_, _≤_, _<_}
 use native.Mathlib.Nat.{mul-div-cancel}
 use native.Mathlib.Decide.{decLt}
 use native.Mathlib.Omega.{arith}
-use lib.ListN.{length, drop, length-drop}
+use lib.ListN.{length, take, drop, length-drop}
 use lib.Seq.{getD-drop}
 use Rattle.automaton.specs.Machine.{step}
+use Rattle.automaton.specs.Explore.{Reached}
+use Rattle.automaton.proofs.Loops.{part-is-drop}
 use Rattle.automaton.proofs.Machines.{step-past}
 use Rattle.automaton.proofs.WellFormed.{IsTable, step-entry, step-inside, entry-beyond}
 use Rattle.automaton.proofs.Congruence.{reached-same}
@@ -15,13 +17,12 @@ use Rattle.automaton.proofs.Exploring.{stateAt}
 use Rattle.automaton.proofs.Separating.{HasStates}
 use Rattle.definitions.specs.Bytes.{byte}
 use Rattle.definitions.specs.Book.{width, states, bookMachine}
-use Rattle.definitions.specs.Verdict.{statesReached}
 use Rattle.definitions.specs.Checked.{BookPassed}
 use Rattle.definitions.proofs.BookSteps.{step-is-entry, entry-past}
 use Rattle.definitions.specs.Rows.{rowsIn, TableIn}
 use Rattle.definitions.proofs.TableBytes.{rows-count, entry-is, bytes-are-table}
 use Rattle.book.proofs.Places.{Column, column-of, entry-at}
-use Rattle.search.specs.Found.{SmallTable, rowsMachine, statesOf}
+use Rattle.search.specs.Found.{SmallTable, rowsMachine, statesOf, bookStates, Holds}
 use Rattle.search.proofs.Found.{reached-inside, reached-most}
 
 module _ (rows : List ℕ) (w : ℕ) (small : SmallTable rows w) where
@@ -77,7 +78,7 @@ module _ (b : List ℕ) (p : BookPassed b) where
           let e : 12 + i * w + here .column ≡ 12 + j = omega (arith, here .is) in
           rw (getD-drop 12 b j 0, ← e, ← entry-at b i (here .column)) (p .entryMost (suc i) (here .column) (omega arith) (here .inRow) (here .inWidth))
 
-  pub book-rows : SmallTable (drop 12 b) w
+  book-rows : SmallTable (drop 12 b) w
   book-rows = record { table = rw rows-are book-table; few = rw rows-are (p .layout .header .statesMost); narrow = omega (arith, p .layout .header .widthMost) }
 
   book-step : (s c : ℕ) → step (rowsMachine (drop 12 b) w) s c ≡ step (bookMachine b) s c
@@ -93,6 +94,16 @@ module _ (b : List ℕ) (p : BookPassed b) where
       go (yes k) (no l) =
           rows-beyond (drop 12 b) w book-rows i c (omega (arith, rows-are)) ∙ sym (step-is-entry b (suc i) c (omega arith) k ∙ entry-past b p i c (omega arith))
 
-  pub book-states : statesOf (drop 12 b) w ≡ statesReached b
-  unfolding statesOf
+  book-states : statesOf (drop 12 b) w ≡ bookStates b
+  unfolding statesOf bookStates
   book-states = reached-same (rowsMachine (drop 12 b) w) (bookMachine b) refl refl book-step 127
+
+  -- the rows as the code hands them on, v being the width
+  module _ (v : ℕ) (e : v ≡ w) where
+    pub part-rows : SmallTable (take (length b - 12) (drop 12 b)) v
+    part-rows = rw (part-is-drop 12 b, e) book-rows
+
+    pub part-states : {n : ℕ} {order trail : List ℕ} → Holds (statesOf (take (length b - 12) (drop 12 b)) v) n order trail → Holds (bookStates b) n order trail
+    part-states {n} {order} {trail} H =
+        let same : statesOf (take (length b - 12) (drop 12 b)) v ≡ bookStates b = rw (part-is-drop 12 b, e) book-states in
+        subst (λ (L : List Reached). Holds L n order trail) same H

@@ -9,6 +9,7 @@ use Rattle.automaton.specs.Explore.{Reached, numberIn, visit, reached}
 use Rattle.automaton.specs.Table.{tabled}
 use Rattle.automaton.specs.Parents.{Falls}
 use Rattle.definitions.specs.Bytes.{byte}
+use Rattle.definitions.specs.Verdict.{statesReached}
 use Rattle.definitions.specs.Rows.{rowsIn, TableIn}
 use Rattle.search.specs.Trail.{firstAt, historyAt}
 
@@ -26,6 +27,10 @@ rowsMachine rows w = tabled w (rowsIn rows (length rows / w) w)
 -- the states that histories reach from state 1, in the order of their earliest history, each with that history
 unfoldable pub statesOf : List ℕ → ℕ → List Reached
 statesOf rows w = reached (rowsMachine rows w) 127
+
+-- the same for a book
+unfoldable pub bookStates : List ℕ → List Reached
+bookStates b = statesReached b
 
 -- ---- arrays that hold what is found
 -- what place k holds

@@ -6,10 +6,12 @@ ghost use mathlib.Core.List.{[], _∷_, _++_};
 ghost use Prim.Native.Nat.{_≤_, _<_};
 ghost use lib.ListN.{length, set};
 ghost use Rattle.automaton.specs.Explore.{add};
+ghost use Rattle.definitions.specs.Checked.{BookPassed};
 ghost use Rattle.search.specs.Trail.{historyAt};
-ghost use Rattle.search.specs.Found.{SmallTable, statesOf, foundIn, Holds, Arrays, visitedAt, CanVisit};
+ghost use Rattle.search.specs.Found.{SmallTable, statesOf, foundIn, Holds, Arrays, visitedAt, CanVisit, bookStates};
 use crate::trail::put;
 use automaton::wide;
+use book::width;
 
 // State 1 is found, with no history.
 fn begin(order: &mut [u8], numbers: &mut [u8])
@@ -87,4 +89,13 @@ pub fn explore(rows: &[u8], width: usize, order: &mut [u8], trail: &mut [u8]) ->
         i += 1;
     }
     n
+}
+
+// The states of a book that passes the checks, in the order of their earliest history, each with that history. Returns how many there are.
+pub fn explore_book(book: &[u8], order: &mut [u8], trail: &mut [u8]) -> usize
+    requires { ⌜ BookPassed (now book) × (128 ≤ length (now order)) × (256 ≤ length (now trail)) ⌝ }
+    ensures { λ r. ⌜ Holds (bookStates (now (book .entry))) r (now (order .exit)) (now (trail .exit)) ⌝ }
+{
+    let w = width(book);
+    explore(&book[12..], w, order, trail)
 }

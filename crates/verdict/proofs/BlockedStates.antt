@@ -1,4 +1,4 @@
--- Settled marks tell the blocked states: a state that a history leads to is blocked exactly if it is not marked.
+-- FixedPoint marks tell the blocked states: a state that a history leads to is blocked exactly if it is not marked.
 use mathlib.Core.Path.{_≡_, refl, sym, ap, _∙_, subst}
 use mathlib.Core.Bool.{Bool, true, false, not, false≢true, true≢false}
 use mathlib.Core.List.{List, [], _∷_, _++_}
@@ -15,21 +15,18 @@ use Rattle.automaton.proofs.Machines.{after-append}
 use Rattle.automaton.proofs.Separating.{after-within}
 use Rattle.definitions.specs.Answer.{written, historyBytes}
 use Rattle.definitions.specs.Bytes.{byte}
-use Rattle.definitions.specs.Book.{events, requests, width, states, entry, bookMachine}
-use Rattle.definitions.specs.Refusal.{bookRefusal}
+use Rattle.definitions.specs.Book.{events, requests, states, entry, bookMachine}
 use Rattle.definitions.specs.Demands.{Events, BlockedAfter}
 use Rattle.definitions.specs.Telling.{someRequest, answered}
-use Rattle.definitions.specs.Verdict.{isBlocked, historyOf}
+use Rattle.definitions.specs.Verdict.{isBlocked, historyOf, blocked}
 use Rattle.definitions.proofs.Written.{written-read}
 use Rattle.definitions.specs.Checked.{BookPassed}
-use Rattle.definitions.proofs.Accepted.{book-passed}
 use Rattle.definitions.proofs.BookSteps.{is-state, state-is, has-states, step-is-entry}
 use Rattle.definitions.proofs.Blocking.{unanswered-to, unanswered-from, blocked-to, blocked-from}
 use Rattle.search.specs.Trail as Trail
-use Rattle.search.specs.Found.{codesFrom, statesFrom, Holds}
-use Rattle.search.proofs.Reading.{holds-inside, holds-lead}
-use Rattle.verdict.specs.Marks.{marked, unmarkedAt, leadsToMark, Marks, Settled, blockedIn}
-use Rattle.verdict.proofs.Places.{first-none, first-some}
+use Rattle.search.specs.Found.{reachedAt, foundIn, Holds, bookStates}
+use Rattle.verdict.specs.Marks.{marked, unmarkedAt, markedSuccessor, Marks, FixedPoint}
+use Rattle.verdict.proofs.FirstStates.{first-none, first-some, book-first, book-inside, book-leads}
 
 is-false : (t : Bool) → (t ≡ true → ⊥) → t ≡ false
 is-false true f = absurd (f refl)
@@ -39,14 +36,14 @@ same-not : (s t : Bool) → (t ≡ true → s ≡ false) → (t ≡ false → s 
 same-not s true f g = f refl
 same-not s false f g = g refl
 
--- ---- what settled marks say
-module _ (b : List ℕ) (p : BookPassed b) (marks : List ℕ) (M : Marks b marks) (S : Settled b marks) where
+-- ---- what marks say that are a fixed point
+module _ (b : List ℕ) (p : BookPassed b) (marks : List ℕ) (M : Marks b marks) (F : FixedPoint b marks) where
   -- from a state that is not marked events lead to such states
   event-unmarked : (s c : ℕ) → 1 ≤ s → s ≤ states b → marked marks s ≡ false → c < events b → marked marks (entry b s c) ≡ false
   event-unmarked s c least few e l =
       is-false (marked marks (entry b s c)) (λ q.
-      let led : anyBelow (events b) (leadsToMark b marks s) ≡ true = any-below (leadsToMark b marks s) (events b) c l q in
-      true≢false (rw (e, led) at (S s least few)))
+      let led : anyBelow (events b) (markedSuccessor b marks s) ≡ true = any-below (markedSuccessor b marks s) (events b) c l q in
+      true≢false (rw (e, led) at (F s least few)))
 
   none-answers : (s : ℕ) → 1 ≤ s → s ≤ states b → marked marks s ≡ false
       → (es : History) → Events (events b) es → someRequest answered b (after (bookMachine b) s es) ≡ false
@@ -60,13 +57,10 @@ module _ (b : List ℕ) (p : BookPassed b) (marks : List ℕ) (M : Marks b marks
 none-at : (f : ℕ → Bool) (n k : ℕ) → anyBelow n f ≡ false → k < n → f k ≡ false
 none-at f n k e l = is-false (f k) (λ q. false≢true (sym e ∙ any-below f n k l q))
 
-module _ (b : List ℕ) (refusal : bookRefusal b ≡ 0) (marks : List ℕ) (M : Marks b marks) (S : Settled b marks)
+module _ (b : List ℕ) (ok : BookPassed b) (marks : List ℕ) (M : Marks b marks) (F : FixedPoint b marks)
     (h : History) (here : possible (bookMachine b) h ≡ true) where
   abbrev s : ℕ
   s = after (bookMachine b) 1 h
-
-  ok : BookPassed b
-  ok = book-passed b .0 refusal
 
   least : 1 ≤ s
   least = state-is s here
@@ -87,7 +81,7 @@ module _ (b : List ℕ) (refusal : bookRefusal b ≡ 0) (marks : List ℕ) (M : 
   unmarked-blocks e = (
     here,
     λ es all r l. unanswered-from b (h ++ es) r
-        (later es r ∙ none-at (answered b (after (bookMachine b) s es)) (requests b) r (none-answers b ok marks M S s least few e es all) l),
+        (later es r ∙ none-at (answered b (after (bookMachine b) s es)) (requests b) r (none-answers b ok marks M F s least few e es all) l),
   )
 
   blocked-is : isBlocked b s ≡ not (marked marks s)
@@ -95,42 +89,30 @@ module _ (b : List ℕ) (refusal : bookRefusal b ≡ 0) (marks : List ℕ) (M : 
       same-not (isBlocked b s) (marked marks s) (λ e. is-false (isBlocked b s) (λ q. marked-answers (blocked-from b ok h (here, q)) e))
       (λ e. blocked-to b ok h (unmarked-blocks e) .1)
 
--- ---- the states found, w being the width
-module _ (b : List ℕ) (refusal : bookRefusal b ≡ 0) (marks : List ℕ) (M : Marks b marks) (S : Settled b marks)
-    (w : ℕ) (ew : w ≡ width b) (n : ℕ) (order trail : List ℕ) (H : Holds (statesFrom b w 1) n order trail) where
-  abbrev L : List Reached
-  L = statesFrom b w 1
-
-  p : BookPassed b
-  p = book-passed b .0 refusal
-
+-- ---- the states found
+module _ (b : List ℕ) (ok : BookPassed b) {marks : List ℕ} (M : Marks b marks) (F : FixedPoint b marks)
+    {n : ℕ} {order trail : List ℕ} (H : Holds (bookStates b) n order trail) where
   blocked-at : (k : ℕ) → k < n → isBlocked b (byte order k) ≡ unmarkedAt marks order k
   blocked-at k l =
-      let h = Trail.historyAt trail k in
-      let led : after (bookMachine b) 1 h ≡ byte order k =
-      subst (λ (v : ℕ). after (codesFrom b v 1) 1 h ≡ byte order k) ew (holds-lead b p w (omega arith) 1 (omega arith) (p .layout .header .statesSome) n order trail H k l) in
-      let state = holds-inside b p w (omega arith) 1 (omega arith) (p .layout .header .statesSome) n order trail H k l in
-      subst (λ (s : ℕ). isBlocked b s ≡ not (marked marks s)) led (blocked-is b refusal marks M S h (ap isState led ∙ is-state (byte order k) (state .0)))
+      let led = book-leads b H ok k l in
+      subst (λ (s : ℕ). isBlocked b s ≡ not (marked marks s)) led
+      (blocked-is b ok marks M F (Trail.historyAt trail k) (ap isState led ∙ is-state (byte order k) (book-inside b H ok k l .0)))
 
-  blocked-none : n ≤ lowestBelow n (unmarkedAt marks order) → blockedIn b L ≡ none
-  unfolding blockedIn
-  blocked-none l =
-      ap (λ (found : List Reached). historyOf (firstThat (isBlocked b) found)) (sym (H .are))
-      ∙ ap historyOf (first-none (isBlocked b) order trail n (unmarkedAt marks order) blocked-at l)
-
-  blocked-some : (k : ℕ) → k ≡ lowestBelow n (unmarkedAt marks order) → k < n → blockedIn b L ≡ some (Trail.historyAt trail k)
-  unfolding blockedIn
-  blocked-some k e l =
-      ap (λ (found : List Reached). historyOf (firstThat (isBlocked b) found)) (sym (H .are))
-      ∙ ap historyOf (first-some (isBlocked b) order trail n (unmarkedAt marks order) blocked-at k e l)
+  blocked-by : (o : Option Reached) → firstThat (isBlocked b) (foundIn n order trail) ≡ o → blocked b ≡ historyOf o
+  unfolding blocked
+  blocked-by o e = ap historyOf (book-first b H (isBlocked b) ∙ e)
 
   -- an answer and a buffer that say what is found
   abbrev Tells : Option History → List ℕ → List ℕ → Type 0
-  Tells answer buffer after = (answer ≡ blockedIn b L) × (after ≡ written (historyBytes (blockedIn b L)) buffer)
+  Tells answer buffer after = (answer ≡ blocked b) × (after ≡ written (historyBytes (blocked b)) buffer)
 
   pub tells-none : n ≤ lowestBelow n (unmarkedAt marks order) → (buffer : List ℕ) → Tells none buffer buffer
-  tells-none l buffer = rw (blocked-none l) (refl, refl)
+  tells-none l buffer = rw (blocked-by none (first-none (isBlocked b) order trail n (unmarkedAt marks order) blocked-at l)) (refl, refl)
 
   pub tells-blocked : (k m : ℕ) (buffer after : List ℕ) → k ≡ lowestBelow n (unmarkedAt marks order) → k < n
       → m ≡ length (Trail.historyAt trail k) → after ≡ written (Trail.historyAt trail k) buffer → Tells (some (take m after)) buffer after
-  tells-blocked k m buffer after ek l em ea = rw (blocked-some k ek l, written-read (Trail.historyAt trail k) buffer m after em ea) (refl, ea)
+  tells-blocked k m buffer after ek l em ea =
+      rw (
+        blocked-by (some (reachedAt order trail k)) (first-some (isBlocked b) order trail n (unmarkedAt marks order) blocked-at k ek l),
+        written-read (Trail.historyAt trail k) buffer m after em ea,
+      ) (refl, ea)

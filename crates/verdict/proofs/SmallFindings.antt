@@ -14,7 +14,7 @@ use Rattle.definitions.specs.Checked.{BookLayout}
 use Rattle.definitions.proofs.Accepted.{book-passed}
 use Rattle.definitions.proofs.Answers.{answer-given}
 use Rattle.definitions.proofs.Demands.{verdict-right}
-use Rattle.verdict.proofs.Judging.{Passing, passing}
+use Rattle.verdict.proofs.VerdictAnswer.{NotRefused, not-refused}
 
 abbrev pub SmallFound : Found → Type 0
 SmallFound t = (length (t .history) < 127) × (t .request < 64)
@@ -41,12 +41,12 @@ module _ (b : List ℕ) (passes : bookRefusal b ≡ 0) where
     ofBlocked = λ h e. omega (arith, right .blocked-short h e, layout .header .statesMost);
   }
 
--- findings are given only where no row turns the call down
+-- findings are given only where no row refuses the call
 module _ (b forConflict forMissing forBlocked : List ℕ) where
   pub given-small : (found : Findings) → given found ≡ verdictAnswer b forConflict forMissing forBlocked
-      → Passing b forConflict forMissing forBlocked × SmallFindings found
+      → NotRefused b forConflict forMissing forBlocked × SmallFindings found
   unfolding verdictAnswer
   given-small found e =
       let is = answer-given (verdictRefusal b forConflict forMissing forBlocked) found (findings b) e in
-      let rows = passing b forConflict forMissing forBlocked (is .0) in
+      let rows = not-refused b forConflict forMissing forBlocked (is .0) in
       (rows, subst⁻¹ SmallFindings (is .1) (findings-small b (rows .book)))

@@ -1,10 +1,11 @@
--- The first of the states found that passes a test, by the lowest place that does, and the findings that it gives.
+-- The first of the states found that passes a test, by the lowest place that does, and the findings with a request.
 use mathlib.Core.Path.{_≡_, refl, sym, ap, _∙_, subst}
 use mathlib.Core.Bool.{Bool, cond, true, false}
 use mathlib.Core.Logic.{_⊎_, inl, inr}
 use mathlib.Core.List.{List, [], _∷_, _++_}
 use mathlib.Core.Option.{Option, none, some}
-use Prim.Native.Nat.{ℕ, zero, suc, _≤_, _<_}
+use Prim.Native.Nat.{ℕ, zero, suc, _+_, _*_, _≤_, _<_}
+use native.Mathlib.Nat.{le-trans}
 use native.Mathlib.Omega.{arith}
 use lib.ListN.{length, take}
 use Rattle.automaton.specs.Below.{lowestBelow, listBelow}
@@ -12,13 +13,18 @@ use Rattle.automaton.specs.Explore.{Reached, firstThat}
 use Rattle.automaton.proofs.Counting.{below-suc, lowest-below}
 use Rattle.definitions.specs.Answer.{written, historyBytes}
 use Rattle.definitions.specs.Bytes.{byte}
-use Rattle.definitions.specs.Book.{requests}
+use Rattle.automaton.specs.Machine.{after}
+use Rattle.automaton.specs.Parents.{Falls}
+use Rattle.definitions.specs.Book.{requests, states, bookMachine}
+use Rattle.definitions.specs.Checked.{BookPassed}
 use Rattle.definitions.specs.Telling.{someRequest}
-use Rattle.definitions.specs.Verdict.{Found, foundHistory}
+use Rattle.definitions.specs.Verdict.{Found, foundHistory, statesReached, lowestRequest}
 use Rattle.definitions.proofs.Written.{written-read}
-use Rattle.search.specs.Trail.{historyAt}
-use Rattle.search.specs.Found.{reachedAt, foundIn}
-use Rattle.verdict.specs.Requests.{testOf, someAt, findingIn}
+use Rattle.definitions.proofs.BookSteps.{has-states}
+use Rattle.search.specs.Trail.{firstAt, historyAt}
+use Rattle.search.specs.Found.{reachedAt, foundIn, Holds, bookStates}
+use Rattle.search.proofs.Found.{holds-length, holds-inside, holds-leads, reached-most}
+use Rattle.verdict.specs.SoughtRequests.{testOf, someAt, StatesIn, soughtFinding}
 use Rattle.verdict.specs.declared.requests.Sought.{Sought}
 
 -- ---- lists
@@ -73,18 +79,43 @@ module _ (test : ℕ → Bool) (order trail : List ℕ) (n : ℕ) (f : ℕ → B
       let passes : f k ≡ true = rw e (lowest .passes (omega arith)) in
       first-below test (reachedAt order trail) n k l (same k l ∙ passes) (λ j b. same j (omega arith) ∙ lowest .first j (omega arith))
 
+-- ---- the states of a book, as a search has found them
+module _ (b : List ℕ) {n : ℕ} {order trail : List ℕ} (H : Holds (bookStates b) n order trail) where
+  -- the first that passes a test
+  pub book-first : (test : ℕ → Bool) → firstThat test (statesReached b) ≡ firstThat test (foundIn n order trail)
+  unfolding bookStates
+  book-first test = ap (firstThat test) (sym (H .are))
+
+  module _ (p : BookPassed b) where
+    pub book-few : n ≤ 127
+    unfolding bookStates
+    book-few = le-trans (rw (holds-length H) (reached-most (bookMachine b) (states b) (has-states b p))) (p .layout .header .statesMost)
+
+    pub book-inside : StatesIn b n order
+    unfolding bookStates
+    book-inside = holds-inside (bookMachine b) (states b) (has-states b p) H
+
+    pub book-leads : (k : ℕ) → k < n → after (bookMachine b) 1 (historyAt trail k) ≡ byte order k
+    unfolding bookStates
+    book-leads = holds-leads (bookMachine b) (states b) (has-states b p) H
+
+    -- what `write_history` asks for at place k
+    pub book-trail : (k : ℕ) → k < n → 256 ≤ length trail → (m : ℕ) → 128 ≤ m → (2 * k + 1 < length trail) × (Falls (suc k) (firstAt trail) × (k ≤ m))
+    book-trail k l room m long = let few = book-few in (omega arith, (λ j h. H .falls j (omega arith), omega arith))
+
 -- ---- the findings with a request
-module _ (sought : Sought) (b order trail : List ℕ) (n : ℕ) where
+module _ (sought : Sought) (b : List ℕ) {n : ℕ} {order trail : List ℕ} (H : Holds (bookStates b) n order trail) where
   -- an answer and a buffer that say what is found
   abbrev Says : Option Found → List ℕ → List ℕ → Type 0
-  Says answer buffer after =
-      (answer ≡ findingIn sought b (foundIn n order trail)) × (after ≡ written (historyBytes (foundHistory (findingIn sought b (foundIn n order trail)))) buffer)
+  Says answer buffer after = (answer ≡ soughtFinding sought b) × (after ≡ written (historyBytes (foundHistory (soughtFinding sought b))) buffer)
+
+  says : (o : Option Reached) → firstThat (someRequest (testOf sought) b) (foundIn n order trail) ≡ o → soughtFinding sought b ≡ lowestRequest (testOf sought) b o
+  unfolding soughtFinding
+  says o e = ap (lowestRequest (testOf sought) b) (book-first b H (someRequest (testOf sought) b) ∙ e)
 
   pub says-none : n ≤ lowestBelow n (someAt sought b order) → (buffer : List ℕ) → Says none buffer buffer
   says-none l buffer =
-      let is : firstThat (someRequest (testOf sought) b) (foundIn n order trail) ≡ none =
-      first-none (someRequest (testOf sought) b) order trail n (someAt sought b order) (λ k b. refl) l in
-      rw is (refl, refl)
+      rw (says none (first-none (someRequest (testOf sought) b) order trail n (someAt sought b order) (λ k b. refl) l)) (refl, refl)
 
   -- r is the lowest of q requests at state s, and m codes are written
   pub says-found : (k s q r m : ℕ) (buffer after : List ℕ) → k ≡ lowestBelow n (someAt sought b order) → k < n
@@ -93,6 +124,8 @@ module _ (sought : Sought) (b order trail : List ℕ) (n : ℕ) where
   says-found k s q r m buffer after ek l es eq er em ea =
       let lowest : r ≡ lowestBelow (requests b) (testOf sought b (byte order k)) =
       subst (λ (t : ℕ). r ≡ lowestBelow (requests b) (testOf sought b t)) es (subst (λ (p : ℕ). r ≡ lowestBelow p (testOf sought b s)) eq er) in
-      let is : firstThat (someRequest (testOf sought) b) (foundIn n order trail) ≡ some (reachedAt order trail k) =
-      first-some (someRequest (testOf sought) b) order trail n (someAt sought b order) (λ k b. refl) k ek l in
-      rw (is, written-read (historyAt trail k) buffer m after em ea, lowest) (refl, ea)
+      rw (
+        says (some (reachedAt order trail k)) (first-some (someRequest (testOf sought) b) order trail n (someAt sought b order) (λ k b. refl) k ek l),
+        written-read (historyAt trail k) buffer m after em ea,
+        lowest,
+      ) (refl, ea)

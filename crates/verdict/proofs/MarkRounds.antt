@@ -20,7 +20,7 @@ use Rattle.definitions.specs.Demands.{Events}
 use Rattle.definitions.specs.Telling.{someRequest, answered}
 use Rattle.definitions.specs.Checked.{BookPassed}
 use Rattle.definitions.proofs.BookSteps.{step-is-entry}
-use Rattle.verdict.specs.Marks.{marked, countMarks, leadsToMark, gains, withGain, AnswersLater, Marks, Settled}
+use Rattle.verdict.specs.Marks.{marked, countMarks, markedSuccessor, gains, withGain, AnswersLater, Marks, FixedPoint}
 
 one-state : (t : Bool) → isState (one t) ≡ t
 one-state true = refl
@@ -63,10 +63,10 @@ module _ (b marks : List ℕ) (s : ℕ) where
   pub gain-marked : marked marks s ≡ true → Gained 0 marks
   gain-marked e = rw e (refl, refl)
 
-  pub gain-none : anyBelow (events b) (leadsToMark b marks s) ≡ false → Gained 0 marks
+  pub gain-none : anyBelow (events b) (markedSuccessor b marks s) ≡ false → Gained 0 marks
   gain-none e = rw (e, and-false) (refl, refl)
 
-  pub gain-new : marked marks s ≡ false → anyBelow (events b) (leadsToMark b marks s) ≡ true → Gained 1 (set marks s 1)
+  pub gain-new : marked marks s ≡ false → anyBelow (events b) (markedSuccessor b marks s) ≡ true → Gained 1 (set marks s 1)
   gain-new e f = rw (e, f) (refl, refl)
 
 module _ (marks : List ℕ) (s : ℕ) (room : s < length marks) where
@@ -97,7 +97,7 @@ module _ (b : List ℕ) (p : BookPassed b) (marks : List ℕ) (M : Marks b marks
 
   leads : gains b marks s ≡ true → AnswersLater b s
   leads e =
-      let hit = any-below-at (leadsToMark b marks s) (events b) (and-true (not (marked marks s)) (anyBelow (events b) (leadsToMark b marks s)) e .1) in
+      let hit = any-below-at (markedSuccessor b marks s) (events b) (and-true (not (marked marks s)) (anyBelow (events b) (markedSuccessor b marks s)) e .1) in
       let c = hit .0 in
       answers-before c (hit .1) (M .sound (entry b s c) (p .eventEntrySome s c some few (hit .1)) (p .entryMost s c some few (omega (arith, hit .1))) (hit .2))
 
@@ -115,7 +115,7 @@ module _ (b : List ℕ) (p : BookPassed b) (marks : List ℕ) (M : Marks b marks
   unfolding countMarks
   count-more e =
       let room : s < length marks = omega (arith, inside, M .room) in
-      let off = not-true (marked marks s) (and-true (not (marked marks s)) (anyBelow (events b) (leadsToMark b marks s)) e .0) in
+      let off = not-true (marked marks s) (and-true (not (marked marks s)) (anyBelow (events b) (markedSuccessor b marks s)) e .0) in
       count-below-grows (marked marks) (marked (set marks s 1)) 128 (λ t l a. marked-stays marks s room t a) s inside off (marked-new marks s room)
 
   pub gain-marks : Marks b (withGain b marks s)
@@ -134,39 +134,39 @@ module _ (b : List ℕ) (p : BookPassed b) (marks : List ℕ) (M : Marks b marks
 
 -- ---- a round
 -- the states below s have been looked at, and as many are marked as were gained
-pub record Spreading (b marks₀ marks : List ℕ) (gained s : ℕ) : Type 0 where
+pub record Round (b marks₀ marks : List ℕ) (gained s : ℕ) : Type 0 where
   pub are : Marks b marks
   pub some : 1 ≤ s
   pub count : countMarks marks₀ + gained ≤ countMarks marks
-  pub settled : gained ≡ 0 → (t : ℕ) → 1 ≤ t → t < s → gains b marks t ≡ false
+  pub fixed : gained ≡ 0 → (t : ℕ) → 1 ≤ t → t < s → gains b marks t ≡ false
 
-pub spreading-begun : (b marks : List ℕ) → Marks b marks → Spreading b marks marks 0 1
-spreading-begun b marks M = record { are = M; some = omega arith; count = omega arith; settled = λ e t p l. absurd (omega arith) }
+pub round-begun : (b marks : List ℕ) → Marks b marks → Round b marks marks 0 1
+round-begun b marks M = record { are = M; some = omega arith; count = omega arith; fixed = λ e t p l. absurd (omega arith) }
 
 pub count-few : (marks : List ℕ) → countMarks marks ≤ 128
 unfolding countMarks
 count-few marks = count-below-le 128 (marked marks)
 
-module _ (b : List ℕ) (p : BookPassed b) (marks₀ marks : List ℕ) (gained s : ℕ) (S : Spreading b marks₀ marks gained s) where
-  pub spreading-few : gained ≤ 128
-  spreading-few = omega (arith, S .count, count-few marks)
+module _ (b : List ℕ) (p : BookPassed b) (marks₀ marks : List ℕ) (gained s : ℕ) (S : Round b marks₀ marks gained s) where
+  pub round-few : gained ≤ 128
+  round-few = omega (arith, S .count, count-few marks)
 
-  pub spreading-done : states b < s → gained ≡ 0 → Settled b marks
-  spreading-done l e t q k = S .settled e t q (omega arith)
+  pub round-done : states b < s → gained ≡ 0 → FixedPoint b marks
+  round-done l e t q k = S .fixed e t q (omega arith)
 
-  pub spreading-turn : s ≤ states b → (r : ℕ) (marks′ : List ℕ) → r ≡ one (gains b marks s) → marks′ ≡ withGain b marks s
-      → Spreading b marks₀ marks′ (gained + r) (s + 1)
-  spreading-turn l r marks′ er em =
+  pub round-turn : s ≤ states b → (r : ℕ) (marks′ : List ℕ) → r ≡ one (gains b marks s) → marks′ ≡ withGain b marks s
+      → Round b marks₀ marks′ (gained + r) (s + 1)
+  round-turn l r marks′ er em =
       rw em
       (record {
         are = gain-marks b p marks (S .are) s (S .some) l;
         some = omega arith;
         count = omega (arith, er, S .count, gain-count b p marks (S .are) s (S .some) l);
-        settled = λ e t q k. stays e t q (below-suc t s (rw add-one at k)) (gains b marks s) refl (sym er ∙ omega arith);
+        fixed = λ e t q k. kept e t q (below-suc t s (rw add-one at k)) (gains b marks s) refl (sym er ∙ omega arith);
       })
     where
-      stays : gained + r ≡ 0 → (t : ℕ) → 1 ≤ t → (t < s) ⊎ (t ≡ s) → (g : Bool) → gains b marks s ≡ g → one g ≡ 0
+      kept : gained + r ≡ 0 → (t : ℕ) → 1 ≤ t → (t < s) ⊎ (t ≡ s) → (g : Bool) → gains b marks s ≡ g → one g ≡ 0
           → gains b (cond g (set marks s 1) marks) t ≡ false
-      stays e t q k true eg z = absurd (omega arith)
-      stays e t q (inl k) false eg z = S .settled (omega arith) t q k
-      stays e t q (inr k) false eg z = rw k eg
+      kept e t q k true eg z = absurd (omega arith)
+      kept e t q (inl k) false eg z = S .fixed (omega arith) t q k
+      kept e t q (inr k) false eg z = rw k eg

@@ -1,4 +1,4 @@
--- `leads_to_mark` meets its contract: the events below c lead to states that are not marked.
+-- `has_marked_successor` meets its contract: the events below c lead to states that are not marked.
 use mathlib.Core.Path.{_≡_, sym, ap}
 use mathlib.Core.Bool.{true, false}
 use Prim.Native.Nat.{_-_, _≤_}
@@ -8,14 +8,14 @@ use Rattle.automaton.specs.Machine.{isState}
 use Rattle.automaton.proofs.Counting.{any-below}
 use Rattle.definitions.specs.Bytes.{byte}
 use Rattle.definitions.proofs.BookSteps.{is-state}
-use Rattle.verdict.specs.Marks.{leadsToMark}
-use Rattle.verdict.proofs.Lowest.{NoneBelow, any-end}
+use Rattle.verdict.specs.Marks.{markedSuccessor}
+use Rattle.verdict.proofs.LowestBelow.{NoneBelow, any-end}
 use borrow.Author.Needs.{needs}
-use Rattle.verdict.proofs.marks.leads_to_mark.Statement.{statement}
-use Rattle.verdict.proofs.marks.leads_to_mark.Tie as tie
+use Rattle.verdict.proofs.marks.has_marked_successor.Statement.{statement}
+use Rattle.verdict.proofs.marks.has_marked_successor.Tie as tie
 
 abbrev Inv-loop : tie.InvT-loop
-Inv-loop book width marks state e c₀ c = (c ≤ e) × NoneBelow (leadsToMark book marks state) c
+Inv-loop book width marks state e c₀ c = (c ≤ e) × NoneBelow (markedSuccessor book marks state) c
 
 abbrev μ-loop : tie.MeasureT-loop
 μ-loop book width marks state e c₀ c = e - c
@@ -47,7 +47,7 @@ returns : tie.Need-returns Inv-loop μ-loop
 returns c =
     let a = c .before .before .before .before .before .before .before .before .args in
     let l = c .before .before .before .before .loop in
-    let f = leadsToMark (a .book .now) (a .marks .now) (a .state) in
+    let f = markedSuccessor (a .book .now) (a .marks .now) (a .state) in
     let is : f (l .c) ≡ true = rw (← c .before .before .entry .ensures) (is-state (byte (a .marks .now) (c .before .before .entry .result)) (omega (arith, c .if1 .taken))) in
     rw (← c .before .before .before .before .before .events .ensures) (sym (any-below f _ (l .c) (c .before .before .before .loop-test .taken) is))
 
@@ -61,17 +61,17 @@ loop-again : tie.Need-loop-again Inv-loop μ-loop
 loop-again c =
     let a = c .before .before .before .before .before .before .before .before .args in
     let l = c .before .before .before .before .loop in
-    let is : leadsToMark (a .book .now) (a .marks .now) (a .state) (l .c) ≡ false = rw (← c .before .before .entry .ensures) (ap isState (c .if1 .left)) in
+    let is : markedSuccessor (a .book .now) (a .marks .now) (a .state) (l .c) ≡ false = rw (← c .before .before .entry .ensures) (ap isState (c .if1 .left)) in
     (search needs, below-more _ _ (l .inv .1) is)
 
 returns-2 : tie.Need-returns-2 Inv-loop μ-loop
 returns-2 c =
     let a = c .before .before .before .before .before .args in
     let l = c .before .loop in
-    rw (← c .before .before .events .ensures) (sym (any-end (leadsToMark (a .book .now) (a .marks .now) (a .state)) _ (l .c) (l .inv .1) (c .loop-test .left)))
+    rw (← c .before .before .events .ensures) (sym (any-end (markedSuccessor (a .book .now) (a .marks .now) (a .state)) _ (l .c) (l .inv .1) (c .loop-test .left)))
 
-pub leads-to-mark-spec : {M : Type 1} → statement M
-leads-to-mark-spec =
+pub has-marked-successor-spec : {M : Type 1} → statement M
+has-marked-successor-spec =
     tie.close
     (tie.spec
     Inv-loop
