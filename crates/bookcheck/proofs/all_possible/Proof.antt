@@ -1,4 +1,4 @@
--- `leads_on` meets its contract: the entries passed so far are states.
+-- `all_possible` meets its contract: the entries passed so far are states.
 use Prim.Native.Nat.{_+_, _-_, _≤_}
 use mathlib.Core.Path.{_≡_, refl, sym}
 use mathlib.Core.Bool.{true}
@@ -7,13 +7,13 @@ use borrow.Author.Needs.{needs}
 use borrow.Author.Tests.{le-leb, lt-leb}
 use Rattle.automaton.specs.Below.{allBelow}
 use Rattle.definitions.specs.Bytes.{byte}
-use Rattle.bookcheck.specs.Entries.{leadsOn}
+use Rattle.bookcheck.specs.Entries.{isPossible}
 use Rattle.automaton.proofs.Loops.{all-more, all-fails}
-use Rattle.bookcheck.proofs.leads_on.Statement.{statement}
-use Rattle.bookcheck.proofs.leads_on.Tie as tie
+use Rattle.bookcheck.proofs.all_possible.Statement.{statement}
+use Rattle.bookcheck.proofs.all_possible.Tie as tie
 
 abbrev Inv-loop : tie.InvT-loop
-Inv-loop book at e c₀ c = (c ≤ e) × (allBelow c (leadsOn book at) ≡ true)
+Inv-loop book at e c₀ c = (c ≤ e) × (allBelow c (isPossible book at) ≡ true)
 
 abbrev μ-loop : tie.MeasureT-loop
 μ-loop book at e c₀ c = e - c
@@ -31,7 +31,7 @@ returns : tie.Need-returns Inv-loop μ-loop
 returns c =
     let a = c .before .before .before .before .args in
     let l = c .before .before .before .loop in
-    all-fails (leadsOn (a .book .now) (a .at)) (a .e) (l .c) (omega arith) (lt-leb 1 (byte (a .book .now) (a .at + l .c)) (omega arith))
+    all-fails (isPossible (a .book .now) (a .at)) (a .e) (l .c) (omega arith) (lt-leb 1 (byte (a .book .now) (a .at + l .c)) (omega arith))
 
 add-c : tie.Need-add-c Inv-loop μ-loop
 add-c c = search needs
@@ -43,7 +43,7 @@ loop-again : tie.Need-loop-again Inv-loop μ-loop
 loop-again c =
     let a = c .before .before .before .before .args in
     let l = c .before .before .before .loop in
-    (omega arith, all-more (leadsOn (a .book .now) (a .at)) (l .c) (l .inv .1) (le-leb 1 (byte (a .book .now) (a .at + l .c)) (omega arith)))
+    (omega arith, all-more (isPossible (a .book .now) (a .at)) (l .c) (l .inv .1) (le-leb 1 (byte (a .book .now) (a .at + l .c)) (omega arith)))
 
 returns-2 : tie.Need-returns-2 Inv-loop μ-loop
 returns-2 c =
@@ -51,8 +51,8 @@ returns-2 c =
     let e : l .c ≡ c .before .before .args .e = omega arith in
     sym (rw e at (l .inv .1))
 
-pub leads-on-spec : {M : Type 1} → statement M
-leads-on-spec =
+pub all-possible-spec : {M : Type 1} → statement M
+all-possible-spec =
     tie.close
     (tie.spec
     Inv-loop

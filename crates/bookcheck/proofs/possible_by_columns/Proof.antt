@@ -1,4 +1,4 @@
--- `columns_lead_on` meets its contract: the columns are taken together for the rows passed so far.
+-- `possible_by_columns` meets its contract: the columns are taken together for the rows passed so far.
 use Prim.Native.Nat.{ℕ, _+_, _-_, _*_, _≤_}
 use mathlib.Core.Path.{_≡_, sym, ap, _∙_}
 use native.Mathlib.Omega.{arith}
@@ -6,11 +6,11 @@ use borrow.Author.Needs.{needs}
 use lib.ListN.{length}
 use Rattle.automaton.specs.Below.{allBelow}
 use Rattle.definitions.specs.Book.{events, states}
-use Rattle.bookcheck.specs.Entries.{leadsOn}
+use Rattle.bookcheck.specs.Entries.{isPossible}
 use Rattle.book.proofs.Places.{row-inside}
 use Rattle.bookcheck.proofs.Columns.{Columns, columns-begun, columns-turn, columns-done}
-use Rattle.bookcheck.proofs.columns_lead_on.Statement.{statement}
-use Rattle.bookcheck.proofs.columns_lead_on.Tie as tie
+use Rattle.bookcheck.proofs.possible_by_columns.Statement.{statement}
+use Rattle.bookcheck.proofs.possible_by_columns.Tie as tie
 
 abbrev Inv-loop : tie.InvT-loop
 Inv-loop book least₀ n w i₀ least i = (i ≤ n) × Columns book i least
@@ -59,14 +59,14 @@ loop-again c =
     let w = c .before .before .before .before .before .width in
     (omega arith, columns-turn _ (l .inv .1) (rw (w .ensures) at (c .before .lower .ensures)))
 
-slice-aggregate-leads-on : tie.Need-slice-aggregate-leads-on Inv-loop μ-loop
-slice-aggregate-leads-on c = sym (c .before .before .loop .inv .1 .eight)
+slice-aggregate-all-possible : tie.Need-slice-aggregate-all-possible Inv-loop μ-loop
+slice-aggregate-all-possible c = sym (c .before .before .loop .inv .1 .eight)
 
 events-requires : tie.Need-events-requires Inv-loop μ-loop
 events-requires c κs = search needs
 
-leads-on-requires : tie.Need-leads-on-requires Inv-loop μ-loop
-leads-on-requires c κs = omega (arith, c .before .before .before .loop .inv .1 .eight, c .before .before .before .before .before .before .before .pre .0 .header .eventsMost)
+all-possible-requires : tie.Need-all-possible-requires Inv-loop μ-loop
+all-possible-requires c κs = omega (arith, c .before .before .before .loop .inv .1 .eight, c .before .before .before .before .before .before .before .pre .0 .header .eventsMost)
 
 returns : tie.Need-returns Inv-loop μ-loop
 returns c =
@@ -75,12 +75,12 @@ returns c =
     let l = c .before .before .before .before .loop in
     let all : l .i ≡ states b = omega (arith, c .before .before .before .before .before .before .states .ensures) in
     let e : c .before .events .result ≡ events b = c .before .events .ensures in
-    c .leads-on .ensures
-    ∙ ap (λ (k : ℕ). allBelow k (leadsOn (l .least) 0)) e
+    c .all-possible .ensures
+    ∙ ap (λ (k : ℕ). allBelow k (isPossible (l .least) 0)) e
     ∙ columns-done b (rw all at (l .inv .1)) (s .pre .0 .header .eventsMost)
 
-pub columns-lead-on-spec : {M : Type 1} → statement M
-columns-lead-on-spec =
+pub possible-by-columns-spec : {M : Type 1} → statement M
+possible-by-columns-spec =
     tie.close
     (tie.spec
     Inv-loop
@@ -95,7 +95,7 @@ columns-lead-on-spec =
     add-i
     loop-less
     loop-again
-    slice-aggregate-leads-on
+    slice-aggregate-all-possible
     events-requires
-    leads-on-requires
+    all-possible-requires
     returns)
