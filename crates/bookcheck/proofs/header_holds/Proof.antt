@@ -50,8 +50,13 @@ within-requires-2 c κs = search needs
 
 returns-5 : tie.Need-returns-5
 returns-5 c =
-    header-last (c .before .before .before .before .before .before .before .before .before .before .before .before .before .args .book .now) _ _ _ _ (c .before .states .ensures) (c .before .before .before .before .before .before .before .before .before .before .before .events .ensures) (c .before .before .before .requests .ensures) (c .before .before .before .before .before .before .before .before .before .before .if1 .left)
-    (rw (c .before .before .before .before .before .before .before .before .wide .ensures .0) at (held _ _ (c .before .before .before .before .before .before .before .within .ensures) (c .before .before .before .before .before .before .if2 .left))) (held _ _ (c .before .before .before .before .before .counts-hold .ensures) (c .before .before .before .before .if3 .left)) (c .before .before .if4 .left) (c .within2 .ensures)
+    let events-few = c .before .before .before .before .before .before .before .before .before .before .if1 .left in
+    let fields-few = rw (c .before .before .before .before .before .before .before .before .wide .ensures .0) at (held _ _ (c .before .before .before .before .before .before .before .within .ensures) (c .before .before .before .before .before .before .if2 .left)) in
+    let counts = held _ _ (c .before .before .before .before .before .counts-hold .ensures) (c .before .before .before .before .if3 .left) in
+    let requests-few = c .before .before .if4 .left in
+    header-last (c .before .before .before .before .before .before .before .before .before .before .before .before .before .args .book .now) _ _ _ _ (c .before .states .ensures) (c .before .before .before .before .before .before .before .before .before .before .before .events .ensures) (c .before .before .before .requests .ensures)
+    events-few fields-few counts requests-few (c .within2 .ensures)
+
 pub header-holds-spec : {M : Type 1} → statement M
 header-holds-spec =
     tie.close

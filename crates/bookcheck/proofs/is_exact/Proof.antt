@@ -32,6 +32,7 @@ add-result c = omega (arith, size c)
 
 returns : tie.Need-returns
 returns c = exact-is (c .before .before .before .before .args .book .now) _ _ _ (c .states .ensures) (c .before .before .events .ensures) (c .before .requests .ensures)
+
 pub is-exact-spec : {M : Type 1} → statement M
 is-exact-spec =
     tie.close

@@ -17,5 +17,6 @@ is-exact-requires c κs = (c .before .before .before .pre, header-true (c .befor
 
 returns-2 : tie.Need-returns-2
 returns-2 c = c .is-exact .ensures ∙ rw (held _ _ (c .before .before .header-holds .ensures) (c .before .if1 .left))
+
 pub is-laid-out-spec : {M : Type 1} → statement M
 is-laid-out-spec = tie.close (tie.spec header-holds-requires returns is-exact-requires returns-2)

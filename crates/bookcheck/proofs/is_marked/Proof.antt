@@ -47,6 +47,7 @@ returns-3 : tie.Need-returns-3 Inv-loop μ-loop
 returns-3 c =
     let b = c .before .before .before .args .book .now in
     all-done (asStart b) 5 (c .before .loop .i) (omega arith) (c .before .loop .inv .1) ∙ marked-is b (omega arith)
+
 pub is-marked-spec : {M : Type 1} → statement M
 is-marked-spec =
     tie.close

@@ -69,6 +69,7 @@ returns c =
     let y = c .before .before .before .before .before .before .before .before .find2 .ensures in
     let z = c .before .before .find-blocked .ensures in
     (answer-are _ _ _ _ (x .0) (y .0) (z .0), buffers-are _ _ _ _ (start (c .before .before .before .before .before .before .before .before .before .before .before .before .before .before .before .before .before .before .before .before) .pre) _ _ _ (x .1) (y .1) (z .1))
+
 pub judge-spec : {M : Type 1} → statement M
 judge-spec =
     tie.close

@@ -1,6 +1,6 @@
 -- `explore` meets its contract: i states have been visited, and at most as many are found as the table has rows.
 use mathlib.Core.Path.{_≡_, refl, sym, _∙_}
-use Prim.Native.Nat.{_-_}
+use Prim.Native.Nat.{_-_, _≤_}
 use native.Mathlib.Omega.{arith}
 use denote.Ref.{now}
 use lib.ListN.{length, length-set, length-replicate}
@@ -15,6 +15,9 @@ Inv-loop rows width order₀ trail₀ numbers₀ n₀ i₀ order trail numbers n
 
 abbrev μ-loop : tie.MeasureT-loop
 μ-loop rows width order₀ trail₀ numbers₀ n₀ i₀ order trail numbers n i = 128 - i
+
+few : (c : tie.After-numbers4 Inv-loop μ-loop) → c .before .before .before .before .before .before .before .before .before .before .loop .n ≤ 127
+few c = searched-few _ _ (c .before .before .before .before .before .before .before .before .before .before .before .before .before .before .before .before .before .before .before .before .pre .0) (c .before .before .before .before .before .before .before .before .before .before .loop .inv .0)
 
 slice-aggregate-begin : tie.Need-slice-aggregate-begin Inv-loop μ-loop
 slice-aggregate-begin c = search needs
@@ -37,14 +40,15 @@ visit-requires c κs =
     ((small, searched-next _ _ small S (c .before .before .before .loop-test .taken)), S .are)
 
 add-i : tie.Need-add-i Inv-loop μ-loop
-add-i c = omega (arith, searched-few _ _ (c .before .before .before .before .before .before .before .before .before .before .before .before .before .before .before .before .before .before .before .before .pre .0) (c .before .before .before .before .before .before .before .before .before .before .loop .inv .0), c .before .before .before .before .before .before .before .before .before .loop-test .taken)
+add-i c = omega (arith, few c, c .before .before .before .before .before .before .before .before .before .loop-test .taken)
 
 loop-less : tie.Need-loop-less Inv-loop μ-loop
-loop-less c = omega (arith, searched-few _ _ (c .before .before .before .before .before .before .before .before .before .before .before .before .before .before .before .before .before .before .before .before .pre .0) (c .before .before .before .before .before .before .before .before .before .before .loop .inv .0), c .before .before .before .before .before .before .before .before .before .loop-test .taken)
+loop-less c = omega (arith, few c, c .before .before .before .before .before .before .before .before .before .loop-test .taken)
 
 loop-again : tie.Need-loop-again Inv-loop μ-loop
 loop-again c =
-    (searched-turn _ _ (c .before .before .before .before .before .before .before .before .before .before .before .before .before .before .before .before .before .before .before .before .pre .0) (c .before .before .before .before .before .before .before .before .before .before .loop .inv .0) (c .before .before .before .before .before .before .before .before .before .loop-test .taken) (c .before .before .before .before .before .visit .ensures), search needs, search needs, search needs)
+    let turned = searched-turn _ _ (c .before .before .before .before .before .before .before .before .before .before .before .before .before .before .before .before .before .before .before .before .pre .0) (c .before .before .before .before .before .before .before .before .before .before .loop .inv .0) (c .before .before .before .before .before .before .before .before .before .loop-test .taken) (c .before .before .before .before .before .visit .ensures) in
+    (turned, search needs, search needs, search needs)
 
 same-length : tie.Need-same-length Inv-loop μ-loop
 same-length c = search needs

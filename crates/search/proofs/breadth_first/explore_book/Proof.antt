@@ -27,6 +27,7 @@ same-length-2 c = search needs
 
 returns : tie.Need-returns
 returns c = part-states _ (c .before .before .before .before .before .before .before .before .before .before .before .before .pre .0) _ (c .before .before .before .before .before .before .before .before .width .ensures) (c .before .before .before .before .explore .ensures)
+
 pub explore-book-spec : {M : Type 1} → statement M
 explore-book-spec =
     tie.close

@@ -60,12 +60,10 @@ loop-less c = search needs
 loop-again : tie.Need-loop-again Inv-loop μ-loop
 loop-again c =
     let s = c .before .before .before .before .before .before .before .before .before .before .before .before .before .before .before .before .before .before .before .before in
-    let w = c .before .before .before .before .before .before .before .before .before .before .before .before .before .before .wide in (
-      tried-turn (s .pre .0 .0) (s .pre .0 .1) (c .before .before .before .before .before .before .before .before .before .before .before .before .before .loop .inv .0) (c .before .before .before .before .before .before .before .before .before .before .before .before .loop-test .taken) (w .result) (w .ensures .0) _ (c .before .before .before .before .before .before .before .wide2 .ensures .0) (c .before .before .before .before .before .before .note .ensures),
-      search needs,
-      search needs,
-      search needs,
-    )
+    let w = c .before .before .before .before .before .before .before .before .before .before .before .before .before .before .wide in
+    let now = c .before .before .before .before .before .before .before .before .before .before .before .before .before .loop .inv .0 in
+    let turned = tried-turn (s .pre .0 .0) (s .pre .0 .1) now (c .before .before .before .before .before .before .before .before .before .before .before .before .loop-test .taken) (w .result) (w .ensures .0) _ (c .before .before .before .before .before .before .before .wide2 .ensures .0) (c .before .before .before .before .before .before .note .ensures) in
+    (turned, search needs, search needs, search needs)
 
 same-length : tie.Need-same-length Inv-loop μ-loop
 same-length c = search needs

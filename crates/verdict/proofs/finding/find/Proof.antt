@@ -48,6 +48,7 @@ returns-2 c =
     let e = c .before .before .write-history .ensures in
     says-found (s .args .sought) _ (s .pre .0 .1) _ _ _ _ _ (now (s .args .buffer)) _ (c .before .before .before .before .before .before .before .before .before .before .first-with .ensures) (c .before .before .before .before .before .before .before .before .before .if1 .left) (c .before .before .before .before .before .wide .ensures .0)
     (c .before .before .before .before .before .before .before .requests .ensures) (c .before .before .before .before .lowest .ensures) (e .0) (e .1)
+
 pub find-spec : {M : Type 1} → statement M
 find-spec =
     tie.close

@@ -41,6 +41,7 @@ returns-2 c =
     let m = c .before .before .before .before .before .before .before .before .mark .ensures in
     let e = c .before .before .write-history .ensures in
     tells-blocked _ (s .pre .0 .0) (m .0) (m .1) (s .pre .0 .1) _ _ (now (s .args .buffer)) _ (c .before .before .before .before .before .first-unmarked .ensures) (c .before .before .before .before .if1 .left) (e .0) (e .1)
+
 pub find-blocked-spec : {M : Type 1} → statement M
 find-blocked-spec =
     tie.close

@@ -62,6 +62,7 @@ returns-2 c =
     let a = c .before .before .before .before .before .before .args in
     let l = c .before .loop in
     lowest-end (someAt (a .sought) (a .book .now) (a .order .now)) (a .n) (l .k) (l .inv .1) (c .loop-test .left) (l .inv .0)
+
 pub first-with-spec : {M : Type 1} → statement M
 first-with-spec =
     tie.close

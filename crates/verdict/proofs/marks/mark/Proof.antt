@@ -42,6 +42,7 @@ same-length c = search needs
 
 returns : tie.Need-returns Inv-loop μ-loop
 returns c = let i = c .before .loop .inv in (i .0, i .1 (omega (arith, c .loop-test .left)))
+
 pub mark-spec : {M : Type 1} → statement M
 mark-spec =
     tie.close

@@ -16,7 +16,8 @@ abbrev μ-loop : tie.MeasureT-loop
 
 -- what holds once state s has been looked at
 turned : (c : tie.After-slice-known2 Inv-loop μ-loop)
-    → Round (c .before .before .before .before .before .before .before .before .before .args .book .now) (c .before .before .before .before .before .before .before .before .before .args .marks .now) (c .before .before .mark-before .last .1 .1 .0) (c .before .before .before .before .before .loop .gained + c .before .before .mark-before .result) (c .before .before .before .before .before .loop .s + 1)
+    → Round (c .before .before .before .before .before .before .before .before .before .args .book .now) (c .before .before .before .before .before .before .before .before .before .args .marks .now)
+    (c .before .before .mark-before .last .1 .1 .0) (c .before .before .before .before .before .loop .gained + c .before .before .mark-before .result) (c .before .before .before .before .before .loop .s + 1)
 turned c =
     let e = c .before .before .mark-before .ensures in
     round-turn _ (c .before .before .before .before .before .before .before .before .before .pre .0) _ _ _ _ (c .before .before .before .before .before .loop .inv .0) (omega (arith, c .before .before .before .before .loop-test .taken, c .before .before .before .before .before .before .states .ensures)) _ _ (e .0) (e .1)

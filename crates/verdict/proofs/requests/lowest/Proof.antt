@@ -56,6 +56,7 @@ returns-2 c =
     let a = c .before .before .before .args in
     let l = c .before .loop in
     lowest-end (testOf (a .sought) (a .book .now) (a .state)) (a .requests) (l .r) (l .inv .1) (c .loop-test .left) (l .inv .0)
+
 pub lowest-spec : {M : Type 1} → statement M
 lowest-spec =
     tie.close
