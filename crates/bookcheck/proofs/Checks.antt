@@ -11,11 +11,10 @@ use borrow.Author.Tests.{le-leb, leb-true, eq-eqb, eqb-true}
 use Rattle.automaton.specs.Below.{allBelow}
 use Rattle.automaton.proofs.Counting.{and-true}
 use Rattle.definitions.specs.Bytes.{byte, hasMark, within}
-use Rattle.definitions.specs.Book.{events, fields, requests, states}
-use Rattle.definitions.specs.Refusal.{countHolds, headerHolds}
+use Rattle.definitions.specs.Book.{events, fields, requests, width, states}
+use Rattle.definitions.specs.Refusal.{isMarked, countHolds, headerHolds}
 use Rattle.definitions.specs.Checked.{BookHeader}
 use Rattle.definitions.proofs.Tests.{both-true}
-use Rattle.bookcheck.specs.Entries.{isMarked, lengthIsExact}
 use Rattle.bookcheck.proofs.Entries.{same-truth}
 
 -- ---- row 12: the first five bytes
@@ -54,5 +53,5 @@ module _ (b : List ℕ) where
     pub size-fits : BookHeader b → n * (e + 2 * q) ≤ 127 * 136
     size-fits h = rw (hn, he, hq) (mul-le-mul {m₂ = 136} (h .statesMost) (h .widthMost))
 
-    pub exact-is : eqb (length b) (12 + n * (e + 2 * q)) ≡ lengthIsExact b
+    pub exact-is : eqb (length b) (12 + n * (e + 2 * q)) ≡ eqb (length b) (12 + states b * width b)
     exact-is = rw (hn, he, hq)

@@ -1,12 +1,13 @@
 // Rows 12 to 14: what refuses a book. Each row has a test of its own.
 ghost use mathlib.Core.Path.{_≡_};
-ghost use Prim.Native.Nat.{_+_, _-_, _≤_};
+ghost use Prim.Native.Nat.{_+_, _-_, _*_, _≤_};
+ghost use lib.Dec.{eqb};
 ghost use lib.ListN.{length};
 ghost use Rattle.automaton.specs.Below.{allBelow, listBelow};
 ghost use Rattle.definitions.specs.Book as Book;
 ghost use Rattle.definitions.specs.Bytes.{within as isWithin};
-ghost use Rattle.definitions.specs.Refusal.{countHolds, headerHolds, layoutHolds, entriesHold, bookRefusal};
-ghost use Rattle.bookcheck.specs.Entries.{isMarked, lengthIsExact, greatest as greatestOf, isPossible, eventsPossible, lesser};
+ghost use Rattle.definitions.specs.Refusal.{isMarked, countHolds, headerHolds, layoutHolds, entriesHold, bookRefusal};
+ghost use Rattle.bookcheck.specs.Entries.{greatest as greatestOf, isPossible, eventsPossible, lesser};
 ghost use Rattle.definitions.specs.Checked.{BookHeader, BookLayout};
 use automaton::wide;
 use book::events;
@@ -91,7 +92,7 @@ fn header_holds(book: &[u8]) -> bool
 // Whether the rows of a book whose header holds end where the book does.
 fn is_exact(book: &[u8]) -> bool
     requires { ⌜ (12 ≤ length (now book)) × BookHeader (now book) ⌝ }
-    ensures { λ r. ⌜ r ≡ lengthIsExact (now (book .entry)) ⌝ }
+    ensures { λ r. ⌜ r ≡ eqb (length (now (book .entry))) (12 + Book.states (now (book .entry)) * Book.width (now (book .entry))) ⌝ }
 {
     let w = events(book) + 2 * requests(book);
     book.len() == 12 + states(book) * w
