@@ -17,10 +17,10 @@ run-walks : (d : OpenedBook) (cs : List ℕ) (e : OpenedBook) → Run d cs e →
 run-walks d [] e is = (ap (λ (z : OpenedBook). z .bytes) is, ap (λ (z : OpenedBook). z .state) is)
 run-walks d (c ∷ cs) e (r, is, rest) = run-walks (stepOf d c .book) cs e (subst (λ (z : Opened). Run (z .book) cs e) is rest)
 
--- where the bytes are turned down no step moves
-stays : (b : List ℕ) (s : ℕ) (cs : List ℕ) → (bookRefusal b ≡ 0 → ⊥) → walkState b s cs ≡ s
-stays b s [] f = refl
-stays b s (c ∷ cs) f = rw (← step-refused b s c (bookRefusal b) refl f .1) (stays b s cs f)
+-- where the bytes are refused no step moves
+unchanged : (b : List ℕ) (s : ℕ) (cs : List ℕ) → (bookRefusal b ≡ 0 → ⊥) → walkState b s cs ≡ s
+unchanged b s [] f = refl
+unchanged b s (c ∷ cs) f = rw (← step-refused b s c (bookRefusal b) refl f .1) (unchanged b s cs f)
 
 module _ (x : RefT (List ℕ)) (o : Opened) (is : o ≡ openOf x) where
   number-is : o .number ≡ bookRefusal (now x)
@@ -48,7 +48,7 @@ module _ (x : RefT (List ℕ)) (o : Opened) (is : o ≡ openOf x) where
   closed-stays f cs e ran =
       record {
         bytes = same;
-        state = run-is cs e ran .1 ∙ stays (now x) (openState (now x)) cs fails ∙ sym (open-refused (now x) (bookRefusal (now x)) refl fails .1);
+        state = run-is cs e ran .1 ∙ unchanged (now x) (openState (now x)) cs fails ∙ sym (open-refused (now x) (bookRefusal (now x)) refl fails .1);
         steps = λ c. sym (step-refused (now (e .bytes)) (e .state) c (o .number) here f .0);
         tells = λ request. sym (tell-refused (now (e .bytes)) (e .state) request (o .number) here f);
       }

@@ -88,7 +88,7 @@ module _ (n : ℕ) (order trail : List ℕ) (falls : Falls n (firstAt trail)) (r
 
   stored : Holds (foundIn n order trail ++ (record { state = x; history = historyAt trail i ++ (c ∷ []) } ∷ [])) (n + 1) (set order n x) (placed trail n i c)
   unfolding foundIn
-  stored = rw add-one (record {
+  stored = rw (add-one n) (record {
     are =
         let at = reachedAt (set order n x) (placed trail n i c) in
         ap (λ (l : List Reached). l ++ (at n ∷ [])) (list-below-same at (reachedAt order trail) n place-same)

@@ -76,8 +76,8 @@ module _ (marks : List ℕ) (s : ℕ) (room : s < length marks) where
   marked-other : (t : ℕ) → (t ≡ s → ⊥) → marked (set marks s 1) t ≡ marked marks t
   marked-other t n = ap isState (getD-set-other marks s t 1 0 n)
 
-  marked-stays : (t : ℕ) → marked marks t ≡ true → marked (set marks s 1) t ≡ true
-  marked-stays t e = go (ℕ-discrete t s)
+  marked-still : (t : ℕ) → marked marks t ≡ true → marked (set marks s 1) t ≡ true
+  marked-still t e = go (ℕ-discrete t s)
     where
       go : Dec (t ≡ s) → marked (set marks s 1) t ≡ true
       go (yes q) = rw q marked-new
@@ -102,7 +102,7 @@ module _ (b : List ℕ) (p : BookPassed b) (marks : List ℕ) (M : Marks b marks
       answers-before c (hit .1) (M .sound (entry b s c) (p .eventEntrySome s c some few (hit .1)) (p .entryMost s c some few (omega (arith, hit .1))) (hit .2))
 
   marks-more : gains b marks s ≡ true → Marks b (set marks s 1)
-  marks-more e = record { room = rw length-set (M .room); full = λ t q l a. marked-stays marks s room t (M .full t q l a); sound = λ t q l a. go t q l a (ℕ-discrete t s) }
+  marks-more e = record { room = rw length-set (M .room); full = λ t q l a. marked-still marks s room t (M .full t q l a); sound = λ t q l a. go t q l a (ℕ-discrete t s) }
     where
       room : s < length marks
       room = omega (arith, inside, M .room)
@@ -116,7 +116,7 @@ module _ (b : List ℕ) (p : BookPassed b) (marks : List ℕ) (M : Marks b marks
   count-more e =
       let room : s < length marks = omega (arith, inside, M .room) in
       let off = not-true (marked marks s) (and-true (not (marked marks s)) (anyBelow (events b) (markedSuccessor b marks s)) e .0) in
-      count-below-grows (marked marks) (marked (set marks s 1)) 128 (λ t l a. marked-stays marks s room t a) s inside off (marked-new marks s room)
+      count-below-grows (marked marks) (marked (set marks s 1)) 128 (λ t l a. marked-still marks s room t a) s inside off (marked-new marks s room)
 
   pub gain-marks : Marks b (withGain b marks s)
   gain-marks = go (gains b marks s) refl

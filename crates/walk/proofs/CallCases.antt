@@ -41,13 +41,13 @@ module _ (b : List ℕ) where
 
   -- ---- a step
   module _ (s c : ℕ) where
-    -- the number and the state that a step gives
+    -- the number and the state that a step returns
     abbrev Answers : ℕ → ℕ → Type 0
     Answers number state = (number ≡ stepRefusal b s c) × (state ≡ stepState b s c)
 
-    stays : (n : ℕ) → n ≡ stepRefusal b s c → (n ≡ 0 → ⊥) → Answers n s
+    unchanged : (n : ℕ) → n ≡ stepRefusal b s c → (n ≡ 0 → ⊥) → Answers n s
     unfolding stepState
-    stays n e f = (e, rw (← e, ne-eqb n 0 f))
+    unchanged n e f = (e, rw (← e, ne-eqb n 0 f))
 
     moves : (there : ℕ) → 0 ≡ stepRefusal b s c → there ≡ step (bookMachine b) s c → Answers 0 there
     unfolding stepState
@@ -66,10 +66,10 @@ module _ (b : List ℕ) where
     number-taken e h l q = rw (e, h, lt-ltb c (width b) l, q)
 
     pub step-refused : (n : ℕ) → n ≡ bookRefusal b → (n ≡ 0 → ⊥) → Answers n s
-    step-refused n e f = stays n (number-refused n e f) f
+    step-refused n e f = unchanged n (number-refused n e f) f
 
     pub step-outside : bookRefusal b ≡ 0 → (stateHolds b s && ltb c (width b) && isState (step (bookMachine b) s c)) ≡ false → Answers 16 s
-    step-outside e f = stays 16 (number-outside e f) (λ z. omega arith)
+    step-outside e f = unchanged 16 (number-outside e f) (λ z. omega arith)
 
     pub step-taken : (there : ℕ) → bookRefusal b ≡ 0 → stateHolds b s ≡ true → c < width b → there ≡ step (bookMachine b) s c → (there ≡ 0 → ⊥) → Answers 0 there
     step-taken there e h l q f = moves there (number-taken e h l (ap isState (sym q) ∙ is-state there (omega arith))) q

@@ -18,7 +18,7 @@ Inv-loop book least₀ n w i₀ least i = (i ≤ n) × Columns book i least
 abbrev μ-loop : tie.MeasureT-loop
 μ-loop book least₀ n w i₀ least i = n - i
 
--- row i stands within the book, and `lower` is lent its first eight entries
+-- row i stands within the book, and `lower` borrows its first eight entries
 row : (c : tie.After-least Inv-loop μ-loop)
     → 12 + c .before .before .loop .i * c .before .before .before .width .result + c .before .before .before .width .result ≤ length (c .before .before .before .before .before .before .args .book .now)
 row c =
