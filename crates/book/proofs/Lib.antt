@@ -1,2 +1,3 @@
 pub mod Equal
 pub mod Places
+pub mod Tellings

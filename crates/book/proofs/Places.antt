@@ -1,7 +1,8 @@
 -- Where the entries of a book stand.
 use mathlib.Core.Path.{_≡_}
 use mathlib.Core.List.{List}
-use Prim.Native.Nat.{ℕ, suc, _+_, _-_, _*_, _≤_, _<_}
+use Prim.Native.Nat.{ℕ, zero, suc, _+_, _-_, _*_, _/_, _%_, _≤_, _<_}
+use native.Mathlib.Nat.{not-suc-le-zero, mul-zero, mod-lt, div-add-mod', div-lt-iff-lt-mul}
 use native.Mathlib.Omega.{arith}
 use lib.ListN.{length}
 use lib.Seq.{getD-drop}
@@ -24,3 +25,17 @@ module _ (b : List ℕ) (laid : BookLayout b) (w : ℕ) (same : w ≡ width b) w
 -- entry c of row i, counted from 0
 pub entry-at : (b : List ℕ) (i c : ℕ) → entry b (suc i) c ≡ byte b (12 + i * width b + c)
 entry-at b i c = let e : suc i - 1 ≡ i = omega arith in rw e (getD-drop (12 + i * width b) b c 0)
+
+-- entry j of n rows of w entries, counted through all rows, has a row and a column
+pub record Column (n w j : ℕ) : Type 0 where
+  pub row : ℕ
+  pub column : ℕ
+  pub inRow : row < n
+  pub inWidth : column < w
+  pub is : row * w + column ≡ j
+
+pub column-of : (n w j : ℕ) → j < n * w → Column n w j
+column-of n zero j l = absurd (not-suc-le-zero (rw mul-zero at l))
+column-of n (suc v) j l =
+    let some : 0 < suc v = omega arith in
+    record { row = j / suc v; column = j % suc v; inRow = div-lt-iff-lt-mul some .1 l; inWidth = mod-lt j some; is = div-add-mod' j (suc v) }

@@ -1,4 +1,4 @@
-// What stands where in a book. Nothing here turns a book down: each function says what it relies on.
+// What stands where in a book. Nothing here refuses a book: each function says what it relies on.
 ghost use mathlib.Core.Path.{_≡_};
 ghost use Prim.Native.Nat.{_≤_, _<_};
 ghost use lib.ListN.{length};

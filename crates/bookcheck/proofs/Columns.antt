@@ -1,4 +1,4 @@
--- Whether the events lead on, column by column: a column's entries are states in all rows exactly where the least of them is not 0.
+-- Whether every event is possible, column by column: a column's entries are states in all rows exactly where the least of them is not 0.
 use mathlib.Core.Path.{_≡_, ap, _∙_}
 use mathlib.Core.Bool.{true}
 use mathlib.Core.List.{List}
@@ -12,7 +12,7 @@ use Rattle.automaton.specs.Below.{allBelow, listBelow}
 use Rattle.automaton.proofs.Counting.{all-below, all-below-at, length-list-below, getD-list-below}
 use Rattle.definitions.specs.Bytes.{byte}
 use Rattle.definitions.specs.Book.{events, width, states}
-use Rattle.bookcheck.specs.Entries.{leadsOn, rowLeadsOn, eventsLeadOn, lesser}
+use Rattle.bookcheck.specs.Entries.{isPossible, rowPossible, eventsPossible, lesser}
 use Rattle.bookcheck.proofs.Entries.{same-truth}
 
 module _ (b : List ℕ) where
@@ -52,13 +52,13 @@ module _ (b : List ℕ) where
       below c r l h (no p) = let last : r ≡ i = omega arith in rw last (omega (arith, is c l))
 
   -- all rows
-  pub columns-done : {least : List ℕ} → Columns (states b) least → events b ≤ 8 → allBelow (events b) (leadsOn least 0) ≡ eventsLeadOn b
+  pub columns-done : {least : List ℕ} → Columns (states b) least → events b ≤ 8 → allBelow (events b) (isPossible least 0) ≡ eventsPossible b
   columns-done {least} now few =
-      same-truth (allBelow (events b) (leadsOn least 0)) (eventsLeadOn b)
-      (λ t. all-below (rowLeadsOn b) (states b) (λ i l. all-below (leadsOn b (12 + i * width b)) (events b)
+      same-truth (allBelow (events b) (isPossible least 0)) (eventsPossible b)
+      (λ t. all-below (rowPossible b) (states b) (λ i l. all-below (isPossible b (12 + i * width b)) (events b)
       (λ c p. le-leb 1 (entryOf c i) (omega (arith, now .most c i (omega arith) l, front t c p)))))
-      (λ t. all-below (leadsOn least 0) (events b) (λ c p. rw zero-add (le-leb 1 (byte least c) (now .some c (omega arith)
-      (λ i l. leb-true 1 (entryOf c i) (all-below-at (leadsOn b (12 + i * width b)) (events b) (all-below-at (rowLeadsOn b) (states b) t i l) c p))))))
+      (λ t. all-below (isPossible least 0) (events b) (λ c p. rw zero-add (le-leb 1 (byte least c) (now .some c (omega arith)
+      (λ i l. leb-true 1 (entryOf c i) (all-below-at (isPossible b (12 + i * width b)) (events b) (all-below-at (rowPossible b) (states b) t i l) c p))))))
     where
-      front : allBelow (events b) (leadsOn least 0) ≡ true → (c : ℕ) → c < events b → 1 ≤ byte least c
-      front t c p = rw zero-add at (leb-true 1 (byte least (0 + c)) (all-below-at (leadsOn least 0) (events b) t c p))
+      front : allBelow (events b) (isPossible least 0) ≡ true → (c : ℕ) → c < events b → 1 ≤ byte least c
+      front t c p = rw zero-add at (leb-true 1 (byte least (0 + c)) (all-below-at (isPossible least 0) (events b) t c p))

@@ -1,10 +1,10 @@
--- Row 14 in two tests: the greatest entry is at most n, and every event leads to a state.
+-- Row 14 in two tests: the greatest entry is at most n, and every event is possible.
 use mathlib.Core.Path.{_≡_, refl, sym}
 use mathlib.Core.Bool.{Bool, true, false}
 use mathlib.Core.Logic.{_⊎_, inl, inr}
 use mathlib.Core.List.{List}
-use Prim.Native.Nat.{ℕ, zero, suc, max, _+_, _-_, _*_, _/_, _%_, _≤_, _<_}
-use native.Mathlib.Nat.{not-suc-le-zero, mul-zero, mod-lt, div-add-mod', div-lt-iff-lt-mul}
+use Prim.Native.Nat.{ℕ, zero, suc, max, _+_, _-_, _*_, _≤_, _<_}
+use native.Mathlib.Nat.{not-suc-le-zero}
 use native.Mathlib.Decide.{decLt}
 use native.Mathlib.Omega.{arith}
 use lib.ListN.{length}
@@ -13,10 +13,10 @@ use Rattle.automaton.proofs.Counting.{below-suc, all-below, all-below-at}
 use Rattle.definitions.specs.Bytes.{byte}
 use Rattle.definitions.specs.Book.{events, width, states, entry}
 use Rattle.definitions.specs.Refusal.{entriesHold}
-use Rattle.bookcheck.specs.Entries.{greatest, leadsOn, rowLeadsOn, eventsLeadOn}
+use Rattle.bookcheck.specs.Entries.{greatest, isPossible, rowPossible, eventsPossible}
 use Rattle.definitions.specs.Checked.{BookLayout}
 use Rattle.definitions.proofs.Accepted.{entries-true, entries-hold}
-use Rattle.book.proofs.Places.{row-inside, entry-at}
+use Rattle.book.proofs.Places.{row-inside, entry-at, column-of}
 
 -- ---- the greatest entry
 module _ (b : List ℕ) where
@@ -50,26 +50,22 @@ same-truth false true f g = g refl
 same-truth false false f g = refl
 
 module _ (b : List ℕ) where
-  abbrev Leads : Type 0
-  Leads = (s c : ℕ) → 1 ≤ s → s ≤ states b → c < events b → 1 ≤ entry b s c
+  abbrev Possible : Type 0
+  Possible = (s c : ℕ) → 1 ≤ s → s ≤ states b → c < events b → 1 ≤ entry b s c
 
-  rows-lead : eventsLeadOn b ≡ true → Leads
-  rows-lead e zero c some l p = absurd (omega arith)
-  rows-lead e (suc i) c some l p =
+  possible-in-rows : eventsPossible b ≡ true → Possible
+  possible-in-rows e zero c some l p = absurd (omega arith)
+  possible-in-rows e (suc i) c some l p =
       rw entry-at
       (leb-true 1 (byte b (12 + i * width b + c))
-      (all-below-at (leadsOn b (12 + i * width b)) (events b) (all-below-at (rowLeadsOn b) (states b) e i l) c p))
+      (all-below-at (isPossible b (12 + i * width b)) (events b) (all-below-at (rowPossible b) (states b) e i l) c p))
 
-  rows-lead-on : Leads → eventsLeadOn b ≡ true
-  rows-lead-on leads =
-      all-below (rowLeadsOn b) (states b) (λ i l. all-below (leadsOn b (12 + i * width b)) (events b)
-      (λ c p. le-leb 1 (byte b (12 + i * width b + c)) (rw entry-at at (leads (suc i) c (omega arith) l p))))
+  possible-by-rows : Possible → eventsPossible b ≡ true
+  possible-by-rows all =
+      all-below (rowPossible b) (states b) (λ i l. all-below (isPossible b (12 + i * width b)) (events b)
+      (λ c p. le-leb 1 (byte b (12 + i * width b + c)) (rw entry-at at (all (suc i) c (omega arith) l p))))
 
 -- ---- both tests together
-positive : (n w : ℕ) {j : ℕ} → j < n * w → 0 < w
-positive n zero l = absurd (not-suc-le-zero (rw mul-zero at l))
-positive n (suc w) l = omega arith
-
 module _ (b : List ℕ) (laid : BookLayout b) where
   inside-rows : (i c : ℕ) → i < states b → c < width b → i * width b + c < length b - 12
   inside-rows i c l p = omega (arith, row-inside b laid (width b) refl i l)
@@ -81,19 +77,16 @@ module _ (b : List ℕ) (laid : BookLayout b) where
       go : (t : Bool) → entriesHold b ≡ t → (j : ℕ) × (j < length b - 12) × (states b < byte b (12 + j)) → false ≡ t
       go false e r = refl
       go true e (j, l, great) =
-          let w = width b in
-          let rows : j < states b * w = omega (arith, laid .exact) in
-          let some : 0 < w = positive (states b) w rows in
-          let row : j / w < states b = div-lt-iff-lt-mul some .1 rows in
-          let place : 12 + j / w * w + j % w ≡ 12 + j = omega (arith, div-add-mod' j w) in
-          let low = entries-true b e (suc (j / w)) (j % w) (omega arith) row (mod-lt j some) .0 in
+          let here = column-of (states b) (width b) j (omega (arith, laid .exact)) in
+          let place : 12 + here .row * width b + here .column ≡ 12 + j = omega (arith, here .is) in
+          let low = entries-true b e (suc (here .row)) (here .column) (omega arith) (here .inRow) (here .inWidth) .0 in
           absurd (omega (arith, rw (entry-at, place) at low))
 
-  -- no entry above n: what is left is the events
-  pub none-great : greatest b (length b - 12) ≤ states b → eventsLeadOn b ≡ entriesHold b
+  -- no entry above n: the events remain
+  pub none-great : greatest b (length b - 12) ≤ states b → eventsPossible b ≡ entriesHold b
   none-great few =
-      same-truth (eventsLeadOn b) (entriesHold b) (λ e. entries-hold b low (rows-lead b e))
-      (λ e. rows-lead-on b (λ s c some most l. entries-true b e s c some most (omega arith) .1 l))
+      same-truth (eventsPossible b) (entriesHold b) (λ e. entries-hold b low (possible-in-rows b e))
+      (λ e. possible-by-rows b (λ s c some most l. entries-true b e s c some most (omega arith) .1 l))
     where
       low : (s c : ℕ) → 1 ≤ s → s ≤ states b → c < width b → entry b s c ≤ states b
       low zero c some l p = absurd (omega arith)

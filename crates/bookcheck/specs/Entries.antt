@@ -12,16 +12,16 @@ abbrev pub greatest : List ℕ → ℕ → ℕ
 greatest b zero = 0
 greatest b (suc k) = max (greatest b k) (byte b (12 + k))
 
--- event e leads to a state, in the row that begins at byte `at`
-abbrev pub leadsOn : List ℕ → ℕ → ℕ → Bool
-leadsOn b at e = leb 1 (byte b (at + e))
+-- code e is possible, in the row that begins at byte `at`
+abbrev pub isPossible : List ℕ → ℕ → ℕ → Bool
+isPossible b at e = leb 1 (byte b (at + e))
 
--- every event does, in row i counted from 0
-abbrev pub rowLeadsOn : List ℕ → ℕ → Bool
-rowLeadsOn b i = allBelow (events b) (leadsOn b (12 + i * width b))
+-- every event is, in row i counted from 0
+abbrev pub rowPossible : List ℕ → ℕ → Bool
+rowPossible b i = allBelow (events b) (isPossible b (12 + i * width b))
 
-abbrev pub eventsLeadOn : List ℕ → Bool
-eventsLeadOn b = allBelow (states b) (rowLeadsOn b)
+abbrev pub eventsPossible : List ℕ → Bool
+eventsPossible b = allBelow (states b) (rowPossible b)
 
 -- the lesser of a byte and the entry of its column in the row that begins at byte `at`
 abbrev pub lesser : List ℕ → List ℕ → ℕ → ℕ → ℕ

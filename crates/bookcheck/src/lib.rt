@@ -1,20 +1,21 @@
-// Rows 12 to 14: what turns a book down. Each row has a test of its own.
+// Rows 12 to 14: what refuses a book. Each row has a test of its own.
 ghost use mathlib.Core.Path.{_≡_};
-ghost use Prim.Native.Nat.{_+_, _-_, _≤_};
+ghost use Prim.Native.Nat.{_+_, _-_, _*_, _≤_};
+ghost use lib.Dec.{eqb};
 ghost use lib.ListN.{length};
 ghost use Rattle.automaton.specs.Below.{allBelow, listBelow};
 ghost use Rattle.definitions.specs.Book as Book;
 ghost use Rattle.definitions.specs.Bytes.{within as isWithin};
-ghost use Rattle.definitions.specs.Refusal.{isMarked, countHolds, layoutHolds, entriesHold, bookRefusal};
-ghost use Rattle.bookcheck.specs.Entries.{greatest as greatestOf, leadsOn, eventsLeadOn, lesser};
-ghost use Rattle.definitions.specs.Checked.{BookLayout};
+ghost use Rattle.definitions.specs.Refusal.{isMarked, countHolds, headerHolds, layoutHolds, entriesHold, bookRefusal};
+ghost use Rattle.bookcheck.specs.Entries.{greatest as greatestOf, isPossible, eventsPossible, lesser};
+ghost use Rattle.definitions.specs.Checked.{BookHeader, BookLayout};
 use automaton::wide;
 use book::events;
 use book::requests;
 use book::states;
 use book::width;
 
-// The number of the lowest row of 12 to 14 that turns the book down, 0 if none does.
+// The number of the lowest row of 12 to 14 that refuses the book, 0 if none does.
 pub fn refusal(book: &[u8]) -> usize
     ensures { λ r. ⌜ r ≡ bookRefusal (now (book .entry)) ⌝ }
 {
@@ -46,25 +47,34 @@ fn is_marked(book: &[u8]) -> bool
     if book.len() < 12 {
         return false;
     }
-    if book[0] != 0x42 {
-        return false;
+    let start = [0x42u8, 0x4F, 0x4B, 0, 1];
+    let mut i = 0;
+    while i < 5 {
+        if book[i] != start[i] {
+            return false;
+        }
+        i += 1;
     }
-    if book[1] != 0x4F {
-        return false;
-    }
-    if book[2] != 0x4B {
-        return false;
-    }
-    wide(book[3]) * 256 + wide(book[4]) == 1
+    true
 }
 
-// Row 13: the ranges, the absent counts and the exact length.
+// Row 13: the header, and the exact length.
 fn is_laid_out(book: &[u8]) -> bool
     requires { ⌜ 12 ≤ length (now book) ⌝ }
     ensures { λ r. ⌜ r ≡ layoutHolds (now (book .entry)) ⌝ }
 {
-    let e = events(book);
-    if 8 < e {
+    if !header_holds(book) {
+        return false;
+    }
+    is_exact(book)
+}
+
+// The ranges and the absent counts. This needs the first 12 bytes only.
+fn header_holds(book: &[u8]) -> bool
+    requires { ⌜ 12 ≤ length (now book) ⌝ }
+    ensures { λ r. ⌜ r ≡ headerHolds (now (book .entry)) ⌝ }
+{
+    if 8 < events(book) {
         return false;
     }
     if !within(1, wide(book[6]), 4) {
@@ -73,15 +83,19 @@ fn is_laid_out(book: &[u8]) -> bool
     if !counts_hold(book) {
         return false;
     }
-    let q = requests(book);
-    if 64 < q {
+    if 64 < requests(book) {
         return false;
     }
-    let n = states(book);
-    if !within(1, n, 127) {
-        return false;
-    }
-    book.len() == 12 + n * (e + 2 * q)
+    within(1, states(book), 127)
+}
+
+// Whether the rows of a book whose header holds end where the book does.
+fn is_exact(book: &[u8]) -> bool
+    requires { ⌜ (12 ≤ length (now book)) × BookHeader (now book) ⌝ }
+    ensures { λ r. ⌜ r ≡ eqb (length (now (book .entry))) (12 + Book.states (now (book .entry)) * Book.width (now (book .entry))) ⌝ }
+{
+    let w = events(book) + 2 * requests(book);
+    book.len() == 12 + states(book) * w
 }
 
 // Whether each of the four counts is in its range where it is present, and 0 where it is absent.
@@ -120,7 +134,7 @@ fn entries_hold(book: &[u8]) -> bool
     if n < most {
         return false;
     }
-    events_lead_on(book)
+    events_possible(book)
 }
 
 // The greatest entry of all rows.
@@ -138,28 +152,28 @@ fn greatest(book: &[u8]) -> u8
     most
 }
 
-// Whether every event leads to a state, in every row.
-fn events_lead_on(book: &[u8]) -> bool
+// Whether every event is possible, in every row.
+fn events_possible(book: &[u8]) -> bool
     requires { ⌜ BookLayout (now book) ⌝ }
-    ensures { λ r. ⌜ r ≡ eventsLeadOn (now (book .entry)) ⌝ }
+    ensures { λ r. ⌜ r ≡ eventsPossible (now (book .entry)) ⌝ }
 {
     if width(book) < 8 {
-        return rows_lead_on(book);
+        return possible_by_rows(book);
     }
-    columns_lead_on(book)
+    possible_by_columns(book)
 }
 
 // The same, row by row.
-fn rows_lead_on(book: &[u8]) -> bool
+fn possible_by_rows(book: &[u8]) -> bool
     requires { ⌜ BookLayout (now book) ⌝ }
-    ensures { λ r. ⌜ r ≡ eventsLeadOn (now (book .entry)) ⌝ }
+    ensures { λ r. ⌜ r ≡ eventsPossible (now (book .entry)) ⌝ }
 {
     let n = states(book);
     let w = width(book);
     let e = events(book);
     let mut i = 0;
     while i < n {
-        if !leads_on(book, 12 + i * w, e) {
+        if !all_possible(book, 12 + i * w, e) {
             return false;
         }
         i += 1;
@@ -168,9 +182,9 @@ fn rows_lead_on(book: &[u8]) -> bool
 }
 
 // The same by the least entry of each of the first eight columns, which is found for all eight at once and without a branch.
-fn columns_lead_on(book: &[u8]) -> bool
+fn possible_by_columns(book: &[u8]) -> bool
     requires { ⌜ BookLayout (now book) × (8 ≤ Book.width (now book)) ⌝ }
-    ensures { λ r. ⌜ r ≡ eventsLeadOn (now (book .entry)) ⌝ }
+    ensures { λ r. ⌜ r ≡ eventsPossible (now (book .entry)) ⌝ }
 {
     let mut least = [255u8; 8];
     let n = states(book);
@@ -180,7 +194,7 @@ fn columns_lead_on(book: &[u8]) -> bool
         lower(&mut least, book, 12 + i * w);
         i += 1;
     }
-    leads_on(&least, 0, events(book))
+    all_possible(&least, 0, events(book))
 }
 
 // Lowers each of eight bytes to the entry of its column in the row at byte `at`, where that is less.
@@ -197,10 +211,10 @@ fn lower(least: &mut [u8], book: &[u8], at: usize)
     }
 }
 
-// Whether each of the first e entries from byte `at` on is a state.
-fn leads_on(book: &[u8], at: usize, e: usize) -> bool
+// Whether each of the first e entries from byte `at` on is a state, so that its code is possible.
+fn all_possible(book: &[u8], at: usize, e: usize) -> bool
     requires { ⌜ at + e ≤ length (now book) ⌝ }
-    ensures { λ r. ⌜ r ≡ allBelow e (leadsOn (now (book .entry)) at) ⌝ }
+    ensures { λ r. ⌜ r ≡ allBelow e (isPossible (now (book .entry)) at) ⌝ }
 {
     let mut c = 0;
     while c < e {

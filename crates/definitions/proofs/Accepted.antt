@@ -148,7 +148,7 @@ module _ (b : List ℕ) where
       go (yes l) = rw (lt-ltb f (B.fields b) l) (within-true 1 (B.count b f) 16 .1 (present l))
       go (no l) = rw (le-ltb f (B.fields b) (omega arith)) (eq-eqb (B.count b f) 0 (absent (omega arith)))
 
-  header-true : headerHolds b ≡ true → BookHeader b
+  pub header-true : headerHolds b ≡ true → BookHeader b
   header-true e =
       let four = and-true _ _ e in
       let three = and-true _ _ (four .0) in

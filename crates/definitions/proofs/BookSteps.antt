@@ -30,7 +30,7 @@ step-is-entry b s c some l = step-next (bookMachine b) s c (is-state s some) l
 
 module _ (b : List ℕ) (ok : BookPassed b) where
   -- past the rows there are no entries
-  entry-past : (i c : ℕ) → states b ≤ i → entry b (suc i) c ≡ 0
+  pub entry-past : (i c : ℕ) → states b ≤ i → entry b (suc i) c ≡ 0
   entry-past i c l = getD-drop (12 + (suc i - 1) * width b) b c 0 ∙ List·getD-eq-default b 0 past
     where
       past : length b ≤ 12 + (suc i - 1) * width b + c

@@ -1,3 +1,3 @@
 -- Laws that belong to no one function.
-pub mod Histories
+pub mod CallLists
 pub mod Ownership

@@ -25,9 +25,6 @@ use denote.Struct.Declared.{Declared}
 use denote.Struct.Laws as LL
 use denote.Struct.Rest.{all-own, ownAt, rest, own-open, own-out, own-shut}
 use denote.Struct.Values.{Values}
-use Rattle.walk.specs.declared.Stepped.{Stepped}
-use Rattle.walk.proofs.Stepped as S
-use Rattle.walk.proofs.Stepped.Laws as S′
 use Rattle.opened.specs.declared.OpenedBook.{OpenedBook}
 use Rattle.opened.specs.declared.Opened.{Opened}
 use Rattle.opened.proofs.Opened as O
@@ -55,16 +52,6 @@ module _ (κ : Lft) where
 
   abbrev pub OpenedOwns : Opened → Fml
   OpenedOwns r = O.the-row (namedLft 1 0 tt (κ, tt)) .own r (O′.lowered r ∷ [])
-
-abbrev pub SteppedOwns : Stepped → Fml
-SteppedOwns r = S.the-row .own r (S′.lowered r ∷ [])
-
-module _ {M : Type 1} (𝓤 : URA M) (H : Heap 𝓤) (A : Atoms 𝓤) (W : Given 𝓤 H A) where
-  pub stepped-made : (r : Stepped) → r .number < 2 ^ 64 → r .state < 2 ^ 64 → ent 𝓤 (emp 𝓤) (sem 𝓤 H A (SteppedOwns r))
-  stepped-made r fits state-fits =
-      qed W [] ∵
-      nothing ! $ owned ! usize (Is usize) (uint-makes 𝓤 H A W w64) (r .state) _ (refl, state-fits) $ fjoin ! $
-      owned ! usize (Is usize) (uint-makes 𝓤 H A W w64) (r .number) _ (refl, fits) $ fjoin ! $ by ! (own-shut 𝓤 H A W S.the-type S′.the-laws (r .number, (r .state, tt)))
 
 module _ {M : Type 1} (𝓤 : URA M) (H : Heap 𝓤) (A : Atoms 𝓤) (W : Given 𝓤 H A) (κ : Lft) where
   pub book-twice : (d : OpenedBook) → ent 𝓤 (sem 𝓤 H A (BookOwns κ d)) (sep 𝓤 (sem 𝓤 H A (BookOwns κ d)) (sem 𝓤 H A (BookOwns κ d)))

@@ -35,7 +35,7 @@ pub record Leads (x : RefT (List ℕ)) (cs : List ℕ) (e : OpenedBook) : Type 0
   pub state : e .state ≡ after (bookMachine (now x)) 1 (walkHistory (now x) 1 cs)
   pub history : possible (bookMachine (now x)) (walkHistory (now x) 1 cs) ≡ true
 
--- a book whose opening was turned down by a number: it stays at state 0, and every call on it answers that number
+-- a book whose opening was refused by a number: it remains at state 0, and every call on it answers that number
 pub record StaysClosed (x : RefT (List ℕ)) (number : ℕ) (e : OpenedBook) : Type 0 where
   pub bytes : e .bytes ≡ x
   pub state : e .state ≡ 0

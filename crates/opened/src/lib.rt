@@ -1,10 +1,9 @@
-// The opened book: the lent bytes of a book and the state reached so far. `open`, `tell` and `step` call the functions of `walk` on the bytes and the state;
-// `start` and `step_from` stand above `open` and `step` with plain parameters. The proof of each is a walk of its MIR by hand.
+// The opened book: the borrowed bytes of a book and the state reached so far. Each function calls that of `walk` on the bytes and the state, and its proof is a
+// walk of its MIR by hand. A caller that keeps the bytes and the state apart calls `walk`.
 ghost use mathlib.Core.Path.{_≡_};
-ghost use Rattle.definitions.specs.Opened.{openRefusal, tellAnswer, stepRefusal, stepState};
-ghost use Rattle.walk.specs.Walk.{toldAnswer, openState};
+ghost use Rattle.definitions.specs.Opened.{tellAnswer};
+ghost use Rattle.walk.specs.Walk.{toldAnswer};
 ghost use Rattle.opened.specs.Calls.{openOf, stepOf};
-use walk::Stepped;
 use walk::Told;
 
 pub struct OpenedBook<'a> {
@@ -12,8 +11,8 @@ pub struct OpenedBook<'a> {
     pub state: usize,
 }
 
-// What opening and a step answer: the number of the row that turned the call down, 0 for none, beside the book. A book whose opening is turned down
-// has state 0, and every later call answers the same number.
+// What opening and a step answer: the number of the row that refused the call, 0 for none, beside the book. A book whose opening is refused has state 0,
+// and every later call answers the same number.
 pub struct Opened<'a> {
     pub number: usize,
     pub book: OpenedBook<'a>,
@@ -41,7 +40,7 @@ pub fn tell<'a>(book: OpenedBook<'a>, request: usize) -> Told
     walk::tell(book.bytes, book.state, request)
 }
 
-// Takes the step with a code. Where it is refused the state stays.
+// Takes the step with a code. Where it is refused the state is unchanged.
 pub fn step<'a>(book: OpenedBook<'a>, code: usize) -> Opened<'a>
     ensures { λ r. ⌜ r ≡ stepOf (book .entry) code ⌝ }
 {
@@ -53,28 +52,5 @@ pub fn step<'a>(book: OpenedBook<'a>, code: usize) -> Opened<'a>
     Opened {
         number: there.number,
         book: next,
-    }
-}
-
-// Opening, for a caller that keeps the bytes and the state apart: no function that holds an opened book in a local is covered.
-pub fn start(bytes: &[u8]) -> Stepped
-    ensures { λ r. ⌜ (r .number ≡ openRefusal (now (bytes .entry))) × (r .state ≡ openState (now (bytes .entry))) ⌝ }
-{
-    let opened = open(bytes);
-    Stepped {
-        number: opened.number,
-        state: opened.book.state,
-    }
-}
-
-// A step, for a caller that keeps the bytes and the state apart.
-pub fn step_from(bytes: &[u8], state: usize, code: usize) -> Stepped
-    ensures { λ r. ⌜ (r .number ≡ stepRefusal (now (bytes .entry)) state code) × (r .state ≡ stepState (now (bytes .entry)) state code) ⌝ }
-{
-    let book = OpenedBook { bytes, state };
-    let stepped = step(book, code);
-    Stepped {
-        number: stepped.number,
-        state: stepped.book.state,
     }
 }

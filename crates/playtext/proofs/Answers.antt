@@ -16,7 +16,7 @@ use Rattle.definitions.specs.Checked.{BookPassed}
 use Rattle.definitions.proofs.Accepted.{book-passed}
 use Rattle.text.specs.Put.{Put}
 use Rattle.text.proofs.Putting.{then, byte-put}
-use Rattle.walk.proofs.Walking.{tell-inside}
+use Rattle.walk.proofs.CallCases.{tell-inside}
 use Rattle.playtext.specs.Lines.{Stands, tellingText, tellingsText, answerLine}
 
 -- nothing is put

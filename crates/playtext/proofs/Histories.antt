@@ -7,8 +7,8 @@ use Rattle.definitions.specs.Book.{bookMachine}
 use Rattle.definitions.specs.Refusal.{bookRefusal}
 use Rattle.definitions.specs.Opened.{openRefusal, stepRefusal, walkState, walkHistory}
 use Rattle.walk.specs.Walk.{openState}
-use Rattle.walk.proofs.Histories.{walked}
-use Rattle.walk.proofs.Walking.{open-starts}
+use Rattle.walk.proofs.StepLists.{walked}
+use Rattle.walk.proofs.CallCases.{open-starts}
 use Rattle.playtext.specs.Lines.{stateLine, answerLine}
 use Rattle.playtext.specs.Play.{stepLines, playLines}
 use Rattle.playtext.proofs.Turns.{lines-last}

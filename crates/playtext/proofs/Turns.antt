@@ -17,8 +17,8 @@ use Rattle.definitions.proofs.Tests.{within-true}
 use Rattle.text.specs.Put.{Put}
 use Rattle.text.proofs.Putting.{then}
 use Rattle.walk.specs.Walk.{openState}
-use Rattle.walk.proofs.Histories.{step-within}
-use Rattle.walk.proofs.Walking.{open-starts}
+use Rattle.walk.proofs.StepLists.{step-within}
+use Rattle.walk.proofs.CallCases.{open-starts}
 use Rattle.playtext.specs.Lines.{Stands, answerLine}
 use Rattle.playtext.specs.Play.{stepLines, playLines}
 use Rattle.playtext.proofs.Answers.{nothing-put}

@@ -12,7 +12,7 @@ pub fn put_play(book: &[u8], codes: &[u8], out: &mut [u8]) -> usize
     requires { ⌜ 512 * (length (now codes) + 1) ≤ length (now out) ⌝ }
     ensures { λ r. ⌜ Put (now (out .entry)) 0 (playLines (now (book .entry)) (now (codes .entry))) (now (out .exit)) r × (r ≤ 512 * (length (now (codes .entry)) + 1)) ⌝ }
 {
-    let start = opened::start(book);
+    let start = walk::open(book);
     let at = put_answer(out, 0, start.number, book, start.state);
     if start.number != 0 {
         return at;
@@ -29,7 +29,7 @@ fn put_steps(book: &[u8], start: usize, codes: &[u8], out: &mut [u8], at: usize)
     let mut next = at;
     let mut i = 0;
     while i < codes.len() {
-        let stepped = opened::step_from(book, state, wide(codes[i]));
+        let stepped = walk::step(book, state, wide(codes[i]));
         next = put_answer(out, next, stepped.number, book, stepped.state);
         state = stepped.state;
         i += 1;

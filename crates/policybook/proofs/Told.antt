@@ -13,7 +13,7 @@ use Rattle.definitions.specs.Build.{bookOf, buildRefusal, buildAnswer}
 use Rattle.definitions.specs.Verdict.{Found, conflict, missing, blocked, findings, verdictRefusal, verdictAnswer}
 use Rattle.definitions.specs.Compare.{comparison, compareRefusal, compareAnswer}
 use Rattle.policybook.specs.Packing.{packed, bookLength, historyLength, blockedValue, foundValue, findingsValue}
-use Rattle.verdict.proofs.Small.{SmallFound, findings-small}
+use Rattle.verdict.proofs.SmallFindings.{SmallFound, findings-small}
 use Rattle.policybook.proofs.Small.{build-refusal-small, verdict-refusal-small, compare-refusal-small}
 
 -- ---- the refusal and the value

@@ -3,7 +3,7 @@ ghost use mathlib.Core.Path.{_≡_};
 ghost use Rattle.definitions.specs.Build.{buildAnswer, buildBuffer};
 ghost use Rattle.definitions.specs.Verdict.{verdictAnswer, verdictBuffers};
 ghost use Rattle.definitions.specs.Compare.{compareAnswer, compareBuffer};
-ghost use Rattle.verdict.specs.Answer.{buffersAfter};
+ghost use Rattle.verdict.specs.VerdictAnswer.{buffersAfter};
 ghost use Rattle.policybook.specs.Packing.{packed, bookLength, findingsValue, historyLength};
 
 mod packing;

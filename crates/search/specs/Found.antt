@@ -1,25 +1,38 @@
--- The states of a book that a search finds, each with a history, and the arrays that hold them.
+-- The states of a table that a search finds, each with a history, and the arrays that hold them.
 use mathlib.Core.Path.{_≡_}
-use mathlib.Core.Bool.{cond}
 use mathlib.Core.List.{List}
-use Prim.Native.Nat.{ℕ, zero, suc, _≤_, _<_}
+use Prim.Native.Nat.{ℕ, zero, suc, _/_, _≤_, _<_}
 use lib.ListN.{length}
 use Rattle.automaton.specs.Below.{listBelow}
-use Rattle.automaton.specs.Machine.{Machine, isState}
-use Rattle.automaton.specs.Explore.{Reached, numberIn, reached}
+use Rattle.automaton.specs.Machine.{Machine}
+use Rattle.automaton.specs.Explore.{Reached, numberIn, visit, reached}
+use Rattle.automaton.specs.Table.{tabled}
 use Rattle.automaton.specs.Parents.{Falls}
 use Rattle.definitions.specs.Bytes.{byte}
-use Rattle.definitions.specs.Book.{entry}
+use Rattle.definitions.specs.Verdict.{statesReached}
+use Rattle.definitions.specs.Rows.{rowsIn, TableIn}
 use Rattle.search.specs.Trail.{firstAt, historyAt}
 
--- the first k codes of a book, from state s on
-abbrev pub codesFrom : List ℕ → ℕ → ℕ → Machine
-codesFrom b k s = record { width = k; start = s; next = entry b }
+-- ---- tables that a search takes
+-- the bytes are the rows of a table, w entries each; a byte has room for the number of a row, and for a code
+pub record SmallTable (rows : List ℕ) (w : ℕ) : Type 0 where
+  pub table : TableIn rows (length rows / w) w
+  pub few : length rows / w ≤ 127
+  pub narrow : w ≤ 256
 
--- the states that these codes lead to from state s, in the order of their earliest history, each with that history
-unfoldable pub statesFrom : List ℕ → ℕ → ℕ → List Reached
-statesFrom b k s = reached (codesFrom b k s) 127
+-- its machine: the states are the numbers of the rows
+abbrev pub rowsMachine : List ℕ → ℕ → Machine
+rowsMachine rows w = tabled w (rowsIn rows (length rows / w) w)
 
+-- the states that histories reach from state 1, in the order of their earliest history, each with that history
+unfoldable pub statesOf : List ℕ → ℕ → List Reached
+statesOf rows w = reached (rowsMachine rows w) 127
+
+-- the same for a book
+unfoldable pub bookStates : List ℕ → List Reached
+bookStates b = statesReached b
+
+-- ---- arrays that hold what is found
 -- what place k holds
 abbrev pub reachedAt : List ℕ → List ℕ → ℕ → Reached
 reachedAt order trail k = record { state = byte order k; history = historyAt trail k }
@@ -28,20 +41,31 @@ reachedAt order trail k = record { state = byte order k; history = historyAt tra
 unfoldable pub foundIn : ℕ → List ℕ → List ℕ → List Reached
 foundIn n order trail = listBelow n (reachedAt order trail)
 
--- 1 for a state that is found, and for 0, which is no state
-abbrev pub markOf : List Reached → ℕ → ℕ
-markOf found zero = 1
-markOf found (suc s) = cond (isState (numberIn found (suc s))) 1 0
-
--- n states are found: there is room for 128, each but the first follows an earlier one, and the third array has the mark of each state
-pub record Searching (n : ℕ) (order trail marks : List ℕ) : Type 0 where
-  pub roomOrder : 128 ≤ length order
-  pub roomTrail : 256 ≤ length trail
-  pub roomMarks : 128 ≤ length marks
-  pub falls : Falls n (firstAt trail)
-  pub marked : (s : ℕ) → s < 128 → byte marks s ≡ markOf (foundIn n order trail) s
-
--- the first n places hold the states of a list, each with its history
+-- the first n places hold the states of a list, each with its history; each but the first follows an earlier one
 pub record Holds (found : List Reached) (n : ℕ) (order trail : List ℕ) : Type 0 where
   pub are : foundIn n order trail ≡ found
   pub falls : Falls n (firstAt trail)
+
+-- the number of a state, 0 if it is not found; 0 is no state, and has 1 as if it were found
+abbrev pub numberOf : List Reached → ℕ → ℕ
+numberOf found zero = 1
+numberOf found (suc s) = numberIn found (suc s)
+
+-- the arrays of a search: there is room for 128 states, and the third has their numbers
+pub record Arrays (found : List Reached) (n : ℕ) (order trail numbers : List ℕ) : Type 0 where
+  pub holds : Holds found n order trail
+  pub roomOrder : 128 ≤ length order
+  pub roomTrail : 256 ≤ length trail
+  pub roomNumbers : 128 ≤ length numbers
+  pub numbered : (s : ℕ) → s < 128 → byte numbers s ≡ numberOf found s
+
+-- what is found once the state at place i of n is visited
+abbrev pub visitedAt : List ℕ → ℕ → List ℕ → List ℕ → ℕ → ℕ → List Reached
+visitedAt rows w order trail n i = visit (rowsMachine rows w) (reachedAt order trail i) w (foundIn n order trail)
+
+-- it can be visited: it has a row, and there is room for what is found then
+pub record CanVisit (rows : List ℕ) (w : ℕ) (order trail : List ℕ) (n i : ℕ) : Type 0 where
+  pub before : i < n
+  pub some : 1 ≤ byte order i
+  pub most : byte order i ≤ length rows / w
+  pub room : length (visitedAt rows w order trail n i) ≤ 127

@@ -1,7 +1,8 @@
-// Breadth-first search over the states of a book, and the histories that a search keeps.
+// Breadth-first search over the rows of a table, as those of a book, and the histories that a search keeps.
 mod breadth_first;
 mod trail;
 
 pub use breadth_first::explore;
+pub use breadth_first::explore_book;
 pub use trail::put;
 pub use trail::write_history;

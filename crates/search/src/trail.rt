@@ -31,7 +31,7 @@ fn history_length(trail: &[u8], i: usize) -> usize
     n
 }
 
-// Writes the codes that lead to place i to the front of the buffer, the last first, and gives their number. Bytes after them stay.
+// Writes the codes that lead to place i to the front of the buffer, the last first, and returns their number. The bytes after them are unchanged.
 pub fn write_history(trail: &[u8], i: usize, buffer: &mut [u8]) -> usize
     requires { ⌜ 2 * i + 1 < length (now trail) ⌝ }
     requires { ⌜ Falls (suc i) (firstAt (now trail)) ⌝ }

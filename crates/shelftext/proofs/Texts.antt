@@ -10,7 +10,7 @@ use Rattle.definitions.specs.Book.{states}
 use Rattle.definitions.specs.Refusal.{bookRefusal}
 use Rattle.definitions.specs.Verdict.{Findings, findings, verdictAnswer}
 use Rattle.definitions.specs.Shelf.{bookText, policyText, shelfText}
-use Rattle.verdict.proofs.Judging.{by-book, answer-given}
+use Rattle.verdict.proofs.VerdictAnswer.{by-book, answer-given}
 use Rattle.text.specs.Put.{Put}
 use Rattle.text.specs.Built.{refusalOr}
 use Rattle.shelftext.specs.Texts.{judgedText}

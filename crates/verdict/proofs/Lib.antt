@@ -1,10 +1,10 @@
 -- Laws that belong to no one function.
-pub mod Lowest
-pub mod Seeking
-pub mod Places
-pub mod Marking
-pub mod Blocking
-pub mod Judging
-pub mod Small
-pub mod Within
+pub mod LowestBelow
+pub mod SoughtRequests
+pub mod FirstStates
+pub mod MarkRounds
+pub mod BlockedStates
+pub mod VerdictAnswer
+pub mod SmallFindings
+pub mod AnswerBounds
 pub mod Returned

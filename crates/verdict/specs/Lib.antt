@@ -1,4 +1,4 @@
-pub mod Requests
+pub mod SoughtRequests
 pub mod Marks
-pub mod Answer
-pub mod Within
+pub mod VerdictAnswer
+pub mod AnswerBounds

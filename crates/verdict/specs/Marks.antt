@@ -2,18 +2,15 @@
 use mathlib.Core.Path.{_≡_}
 use mathlib.Core.Bool.{Bool, true, false, not, cond, _&&_}
 use mathlib.Core.List.{List}
-use mathlib.Core.Option.{Option}
 use Prim.Native.Nat.{ℕ, _≤_}
 use lib.ListN.{length, set}
 use Rattle.automaton.specs.Below.{anyBelow, countBelow}
 use Rattle.automaton.specs.History.{History}
 use Rattle.automaton.specs.Machine.{after, isState}
-use Rattle.automaton.specs.Explore.{Reached, firstThat}
 use Rattle.definitions.specs.Bytes.{byte}
 use Rattle.definitions.specs.Book.{events, states, entry, bookMachine}
 use Rattle.definitions.specs.Demands.{Events}
 use Rattle.definitions.specs.Telling.{someRequest, answered}
-use Rattle.definitions.specs.Verdict.{isBlocked, historyOf}
 
 abbrev pub marked : List ℕ → ℕ → Bool
 marked marks s = isState (byte marks s)
@@ -26,12 +23,12 @@ unfoldable pub countMarks : List ℕ → ℕ
 countMarks marks = countBelow 128 (marked marks)
 
 -- event c leads from state s to a marked one
-abbrev pub leadsToMark : List ℕ → List ℕ → ℕ → ℕ → Bool
-leadsToMark b marks s c = marked marks (entry b s c)
+abbrev pub markedSuccessor : List ℕ → List ℕ → ℕ → ℕ → Bool
+markedSuccessor b marks s c = marked marks (entry b s c)
 
 -- state s is not marked, and some event leads to a marked one
 abbrev pub gains : List ℕ → List ℕ → ℕ → Bool
-gains b marks s = not (marked marks s) && anyBelow (events b) (leadsToMark b marks s)
+gains b marks s = not (marked marks s) && anyBelow (events b) (markedSuccessor b marks s)
 
 -- the marks then
 abbrev pub withGain : List ℕ → List ℕ → ℕ → List ℕ
@@ -49,10 +46,6 @@ pub record Marks (b marks : List ℕ) : Type 0 where
   pub full : (s : ℕ) → 1 ≤ s → s ≤ states b → someRequest answered b s ≡ true → marked marks s ≡ true
   pub sound : (s : ℕ) → 1 ≤ s → s ≤ states b → marked marks s ≡ true → AnswersLater b s
 
--- no event leads from a state that is not marked to a marked one
-abbrev pub Settled : List ℕ → List ℕ → Type 0
-Settled b marks = (s : ℕ) → 1 ≤ s → s ≤ states b → gains b marks s ≡ false
-
--- the history of the first of the states found from which no request is answered, now or after any list of events
-unfoldable pub blockedIn : List ℕ → List Reached → Option History
-blockedIn b found = historyOf (firstThat (isBlocked b) found)
+-- the marks are a fixed point: no event leads from a state that is not marked to a marked one
+abbrev pub FixedPoint : List ℕ → List ℕ → Type 0
+FixedPoint b marks = (s : ℕ) → 1 ≤ s → s ≤ states b → gains b marks s ≡ false

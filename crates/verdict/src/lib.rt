@@ -2,20 +2,19 @@
 ghost use mathlib.Core.Path.{_≡_};
 ghost use Rattle.definitions.specs.Answer.{given};
 ghost use Rattle.definitions.specs.Verdict.{findings, verdictRefusal, verdictAnswer, verdictBuffers};
-ghost use Rattle.verdict.specs.Answer.{judgedAnswer, buffersAfter};
+ghost use Rattle.verdict.specs.VerdictAnswer.{judgedAnswer, buffersAfter};
 
 mod finding;
 mod marks;
 mod requests;
 
-use book::width;
 use bookcheck::refusal;
 pub use finding::Blocked;
 pub use finding::Finding;
 use finding::find;
 use finding::find_blocked;
 use requests::Sought;
-use search::explore;
+use search::explore_book;
 
 // The three findings. The history of each that is found is at the front of its buffer.
 pub struct Findings {
@@ -24,14 +23,14 @@ pub struct Findings {
     pub blocked: Blocked,
 }
 
-// What a verdict gives: the number of the row that turns the call down, or the findings.
+// What a verdict returns: the number of the row that refuses the call, or the findings.
 pub enum Judged {
     Refused(usize),
     Given(Findings),
 }
 
-// The findings on a book. The history of each that is found goes to the front of its buffer; the bytes after it stay, and so does all of the buffer of a
-// finding that is none, and all of each on a refusal.
+// The findings on a book. The history of each that is found goes to the front of its buffer; the bytes after it are unchanged, and so is all of the buffer
+// of a finding that is none, and all of each on a refusal.
 pub fn verdict(book: &[u8], conflict: &mut [u8], missing: &mut [u8], blocked: &mut [u8]) -> Judged
     ensures { λ r. ⌜ judgedAnswer r (now (conflict .exit)) (now (missing .exit)) (now (blocked .exit))
         ≡ verdictAnswer (now (book .entry)) (now (conflict .entry)) (now (missing .entry)) (now (blocked .entry)) ⌝ }
@@ -45,7 +44,7 @@ pub fn verdict(book: &[u8], conflict: &mut [u8], missing: &mut [u8], blocked: &m
     judge(book, conflict, missing, blocked)
 }
 
-// The number of the lowest row that turns the call down, 0 if none does: row 1 for each buffer, then rows 12 to 14.
+// The number of the lowest row that refuses the call, 0 if none does: row 1 for each buffer, then rows 12 to 14.
 fn refused_by(book: &[u8], conflict: &[u8], missing: &[u8], blocked: &[u8]) -> usize
     ensures { λ r. ⌜ r ≡ verdictRefusal (now (book .entry)) (now (conflict .entry)) (now (missing .entry)) (now (blocked .entry)) ⌝ }
 {
@@ -61,7 +60,7 @@ fn refused_by(book: &[u8], conflict: &[u8], missing: &[u8], blocked: &[u8]) -> u
     refusal(book)
 }
 
-// A call that no row turns down.
+// A call that no row refuses.
 fn judge(book: &[u8], conflict: &mut [u8], missing: &mut [u8], blocked: &mut [u8]) -> Judged
     requires { ⌜ verdictRefusal (now book) (now conflict) (now missing) (now blocked) ≡ 0 ⌝ }
     ensures { λ r. ⌜ judgedAnswer r (now (conflict .exit)) (now (missing .exit)) (now (blocked .exit)) ≡ given (findings (now (book .entry))) ⌝ }
@@ -70,11 +69,10 @@ fn judge(book: &[u8], conflict: &mut [u8], missing: &mut [u8], blocked: &mut [u8
 {
     let mut order = [0u8; 128];
     let mut trail = [0u8; 256];
-    let w = width(book);
-    let n = explore(book, w, w, 1, &mut order, &mut trail);
-    let first = find(book, w, &order, &trail, n, Sought::Conflict, conflict);
-    let second = find(book, w, &order, &trail, n, Sought::Missing, missing);
-    let third = find_blocked(book, w, &order, &trail, n, blocked);
+    let n = explore_book(book, &mut order, &mut trail);
+    let first = find(book, &order, &trail, n, Sought::Conflict, conflict);
+    let second = find(book, &order, &trail, n, Sought::Missing, missing);
+    let third = find_blocked(book, &order, &trail, n, blocked);
     Judged::Given(Findings {
         conflict: first,
         missing: second,

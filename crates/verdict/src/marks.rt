@@ -7,13 +7,14 @@ ghost use Rattle.automaton.specs.Below.{anyBelow, one};
 ghost use Rattle.definitions.specs.Book as Book;
 ghost use Rattle.definitions.specs.Telling.{someRequest, answered};
 ghost use Rattle.definitions.specs.Checked.{BookPassed};
-ghost use Rattle.verdict.specs.Marks.{leadsToMark, gains, withGain, countMarks, Marks, Settled};
+ghost use Rattle.verdict.specs.Marks.{markedSuccessor, gains, withGain, countMarks, Marks, FixedPoint};
 use crate::requests::Sought;
 use crate::requests::lowest;
 use book::entry;
 use book::events;
 use book::requests;
 use book::states;
+use book::width;
 
 // 1 for a state that answers some request, else 0.
 fn answers(book: &[u8], width: usize, requests: usize, state: usize) -> u8
@@ -42,10 +43,10 @@ fn mark_answering(book: &[u8], width: usize, marks: &mut [u8])
 }
 
 // Whether some event leads from a state to a marked one.
-fn leads_to_mark(book: &[u8], width: usize, marks: &[u8], state: usize) -> bool
+fn has_marked_successor(book: &[u8], width: usize, marks: &[u8], state: usize) -> bool
     requires { ⌜ BookPassed (now book) × (width ≡ Book.width (now book)) × (128 ≤ length (now marks)) ⌝ }
     requires { ⌜ (1 ≤ state) × (state ≤ Book.states (now book)) ⌝ }
-    ensures { λ r. ⌜ r ≡ anyBelow (Book.events (now (book .entry))) (leadsToMark (now (book .entry)) (now (marks .entry)) state) ⌝ }
+    ensures { λ r. ⌜ r ≡ anyBelow (Book.events (now (book .entry))) (markedSuccessor (now (book .entry)) (now (marks .entry)) state) ⌝ }
 {
     let e = events(book);
     let mut c = 0;
@@ -58,8 +59,8 @@ fn leads_to_mark(book: &[u8], width: usize, marks: &[u8], state: usize) -> bool
     false
 }
 
-// Marks a state from which an event leads to a marked one. Gives 1 if it was not marked before and is now, else 0.
-fn spread_to(book: &[u8], width: usize, marks: &mut [u8], state: usize) -> usize
+// Marks a state from which an event leads to a marked one. Returns 1 if it was not marked before and is now, else 0.
+fn mark_before(book: &[u8], width: usize, marks: &mut [u8], state: usize) -> usize
     requires { ⌜ BookPassed (now book) × (width ≡ Book.width (now book)) × (128 ≤ length (now marks)) ⌝ }
     requires { ⌜ (1 ≤ state) × (state ≤ Book.states (now book)) ⌝ }
     ensures { λ r. ⌜ r ≡ one (gains (now (book .entry)) (now (marks .entry)) state) ⌝ }
@@ -68,37 +69,38 @@ fn spread_to(book: &[u8], width: usize, marks: &mut [u8], state: usize) -> usize
     if marks[state] != 0 {
         return 0;
     }
-    if !leads_to_mark(book, width, marks, state) {
+    if !has_marked_successor(book, width, marks, state) {
         return 0;
     }
     marks[state] = 1;
     1
 }
 
-// One round over all states. Gives how many it marks; where it marks none, the marks are settled.
-fn spread(book: &[u8], width: usize, marks: &mut [u8]) -> usize
+// One round over all states. Returns how many it marks; where it marks none, the marks are a fixed point.
+fn mark_round(book: &[u8], width: usize, marks: &mut [u8]) -> usize
     requires { ⌜ BookPassed (now book) × (width ≡ Book.width (now book)) × Marks (now book) (now marks) ⌝ }
     ensures { λ r. ⌜ Marks (now (book .entry)) (now (marks .exit)) × (countMarks (now (marks .entry)) + r ≤ countMarks (now (marks .exit))) ⌝ }
-    ensures { λ r. ⌜ (r ≡ 0 → Settled (now (book .entry)) (now (marks .exit))) ⌝ }
+    ensures { λ r. ⌜ (r ≡ 0 → FixedPoint (now (book .entry)) (now (marks .exit))) ⌝ }
 {
     let n = states(book);
     let mut gained = 0;
     let mut s = 1;
     while s <= n {
-        gained += spread_to(book, width, marks, s);
+        gained += mark_before(book, width, marks, s);
         s += 1;
     }
     gained
 }
 
 // Marks exactly the states from which some request is answered, now or after a list of events.
-pub fn mark(book: &[u8], width: usize, marks: &mut [u8])
-    requires { ⌜ BookPassed (now book) × (width ≡ Book.width (now book)) × (128 ≤ length (now marks)) ⌝ }
-    ensures { λ _. ⌜ Marks (now (book .entry)) (now (marks .exit)) × Settled (now (book .entry)) (now (marks .exit)) ⌝ }
+pub fn mark(book: &[u8], marks: &mut [u8])
+    requires { ⌜ BookPassed (now book) × (128 ≤ length (now marks)) ⌝ }
+    ensures { λ _. ⌜ Marks (now (book .entry)) (now (marks .exit)) × FixedPoint (now (book .entry)) (now (marks .exit)) ⌝ }
 {
-    mark_answering(book, width, marks);
+    let w = width(book);
+    mark_answering(book, w, marks);
     let mut gained = 1;
     while 0 < gained {
-        gained = spread(book, width, marks);
+        gained = mark_round(book, w, marks);
     }
 }

@@ -1,12 +1,13 @@
-// What is possible for the requests at a state of a book.
+// The requests of a state of a book: those that are sought, by what the state tells of each.
 ghost use mathlib.Core.Path.{_≡_};
 ghost use Prim.Native.Nat.{_≤_};
 ghost use Rattle.automaton.specs.Below.{lowestBelow};
 ghost use Rattle.definitions.specs.Book as Book;
 ghost use Rattle.definitions.specs.Checked.{BookPassed};
-ghost use Rattle.verdict.specs.Requests.{soughtBy, testOf};
-use book::entry;
-use book::events;
+ghost use Rattle.book.specs.Tellings.{tellingOf};
+ghost use Rattle.verdict.specs.SoughtRequests.{soughtBy, testOf};
+use book::Telling;
+use book::telling_at;
 
 // What is looked for: a request that may be both accepted and rejected, one that may be neither, or one that may be either.
 pub enum Sought {
@@ -15,29 +16,30 @@ pub enum Sought {
     Answer,
 }
 
-// Whether a request that may be accepted, and may be rejected, is one that is sought.
-fn is_sought(sought: Sought, accept: bool, reject: bool) -> bool
-    ensures { λ r. ⌜ r ≡ soughtBy sought accept reject ⌝ }
+fn is_sought(sought: Sought, told: Telling) -> bool
+    ensures { λ r. ⌜ r ≡ soughtBy sought (tellingOf told) ⌝ }
 {
-    match sought {
-        Sought::Conflict => {
-            if !accept {
-                return false;
-            }
-            reject
-        }
-        Sought::Missing => {
-            if accept {
-                return false;
-            }
-            !reject
-        }
-        Sought::Answer => {
-            if accept {
-                return true;
-            }
-            reject
-        }
+    match told {
+        Telling::None => match sought {
+            Sought::Conflict => false,
+            Sought::Missing => true,
+            Sought::Answer => false,
+        },
+        Telling::Accept => match sought {
+            Sought::Conflict => false,
+            Sought::Missing => false,
+            Sought::Answer => true,
+        },
+        Telling::Reject => match sought {
+            Sought::Conflict => false,
+            Sought::Missing => false,
+            Sought::Answer => true,
+        },
+        Telling::Both => match sought {
+            Sought::Conflict => true,
+            Sought::Missing => false,
+            Sought::Answer => true,
+        },
     }
 }
 
@@ -47,13 +49,9 @@ pub fn lowest(book: &[u8], width: usize, requests: usize, state: usize, sought: 
     requires { ⌜ (1 ≤ state) × (state ≤ Book.states (now book)) ⌝ }
     ensures { λ r. ⌜ r ≡ lowestBelow requests (testOf sought (now (book .entry)) state) ⌝ }
 {
-    let e = events(book);
     let mut r = 0;
     while r < requests {
-        let code = e + 2 * r;
-        let accept = entry(book, width, state, code) != 0;
-        let reject = entry(book, width, state, code + 1) != 0;
-        if is_sought(sought, accept, reject) {
+        if is_sought(sought, telling_at(book, width, state, r)) {
             return r;
         }
         r += 1;

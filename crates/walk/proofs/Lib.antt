@@ -1,3 +1,3 @@
 -- Laws that belong to no one function.
-pub mod Histories
-pub mod Walking
+pub mod StepLists
+pub mod CallCases

@@ -1,4 +1,4 @@
--- Document 01's number and telling for each answer of the code, and the state that opening gives.
+-- Document 01's number and telling for each answer of the code, and the state that opening returns.
 use mathlib.Core.Bool.{cond}
 use mathlib.Core.List.{List}
 use Prim.Native.Nat.{ℕ}
@@ -16,6 +16,6 @@ toldAnswer Accept = given accept
 toldAnswer Reject = given reject
 toldAnswer Both = given both
 
--- "Opening .. starts at state 1"; 0 where the book is turned down
+-- "Opening .. starts at state 1"; 0 where the book is refused
 abbrev pub openState : List ℕ → ℕ
 openState b = cond (eqb (openRefusal b) 0) 1 0

@@ -1,20 +1,19 @@
 // Walking a book by its bytes and a state: opening, telling, a step. Each call takes rows 12 to 14 again.
 ghost use mathlib.Core.Path.{_≡_};
-ghost use Prim.Native.Nat.{_≤_, _<_};
 ghost use Rattle.definitions.specs.Answer.{given};
-ghost use Rattle.definitions.specs.Book as Book;
-ghost use Rattle.definitions.specs.Telling.{toTelling, telling};
 ghost use Rattle.definitions.specs.Opened.{stateHolds, openRefusal, tellAnswer, stepRefusal, stepState};
 ghost use Rattle.definitions.specs.Checked.{BookLayout};
+ghost use Rattle.book.specs.Tellings.{tellingOf};
 ghost use Rattle.walk.specs.Walk.{toldAnswer, openState};
+use book::Telling;
 use book::entry;
-use book::events;
 use book::requests;
 use book::states;
+use book::telling_at;
 use book::width;
 use bookcheck::refusal;
 
-// What is told of a request: the number of the row that turns the call down, or what is possible.
+// What is told of a request: the number of the row that refuses the call, or what is possible.
 pub enum Told {
     Refused(usize),
     None,
@@ -29,7 +28,7 @@ pub struct Stepped {
     pub state: usize,
 }
 
-// Opening: the start, or state 0 where the book is turned down.
+// Opening: the start, or state 0 where the book is refused.
 pub fn open(book: &[u8]) -> Stepped
     ensures { λ r. ⌜ (r .number ≡ openRefusal (now (book .entry))) × (r .state ≡ openState (now (book .entry))) ⌝ }
 {
@@ -54,10 +53,10 @@ pub fn tell(book: &[u8], state: usize, request: usize) -> Told
     if requests(book) <= request {
         return Told::Refused(16);
     }
-    tell_inside(book, state, request)
+    told_of(telling_at(book, width(book), state, request))
 }
 
-// The state after a step was tried; where it is refused the state stays.
+// The state after a step was tried; where it is refused the state is unchanged.
 pub fn step(book: &[u8], state: usize, code: usize) -> Stepped
     ensures { λ r. ⌜ (r .number ≡ stepRefusal (now (book .entry)) state code) × (r .state ≡ stepState (now (book .entry)) state code) ⌝ }
 {
@@ -93,29 +92,13 @@ fn state_holds(book: &[u8], state: usize) -> bool
     state <= states(book)
 }
 
-fn tell_inside(book: &[u8], state: usize, request: usize) -> Told
-    requires { ⌜ BookLayout (now book) ⌝ }
-    requires { ⌜ (1 ≤ state) × (state ≤ Book.states (now book)) × (request < Book.requests (now book)) ⌝ }
-    ensures { λ r. ⌜ toldAnswer r ≡ given (telling (now (book .entry)) state request) ⌝ }
+fn told_of(telling: Telling) -> Told
+    ensures { λ r. ⌜ toldAnswer r ≡ given (tellingOf telling) ⌝ }
 {
-    let w = width(book);
-    let code = events(book) + 2 * request;
-    let accept = entry(book, w, state, code) != 0;
-    let reject = entry(book, w, state, code + 1) != 0;
-    told_by(accept, reject)
-}
-
-fn told_by(accept: bool, reject: bool) -> Told
-    ensures { λ r. ⌜ toldAnswer r ≡ given (toTelling accept reject) ⌝ }
-{
-    if accept {
-        if reject {
-            return Told::Both;
-        }
-        return Told::Accept;
+    match telling {
+        Telling::None => Told::None,
+        Telling::Accept => Told::Accept,
+        Telling::Reject => Told::Reject,
+        Telling::Both => Told::Both,
     }
-    if reject {
-        return Told::Reject;
-    }
-    Told::None
 }

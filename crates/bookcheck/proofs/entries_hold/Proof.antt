@@ -25,14 +25,14 @@ returns c =
     let above : states b < greatest b (length b - 12) = omega (arith, c .before .before .greatest .ensures, c .before .before .before .states .ensures) in
     too-great b (c .before .before .before .before .before .pre) above
 
-events-lead-on-requires : tie.Need-events-lead-on-requires
-events-lead-on-requires c κs = search needs
+events-possible-requires : tie.Need-events-possible-requires
+events-possible-requires c κs = search needs
 
 returns-2 : tie.Need-returns-2
 returns-2 c =
     let b = c .before .before .before .before .before .before .args .book .now in
     let few : greatest b (length b - 12) ≤ states b = omega (arith, c .before .before .before .greatest .ensures, c .before .before .before .before .states .ensures) in
-    c .events-lead-on .ensures ∙ none-great b (c .before .before .before .before .before .before .pre) few
+    c .events-possible .ensures ∙ none-great b (c .before .before .before .before .before .before .pre) few
 
 pub entries-hold-spec : {M : Type 1} → statement M
 entries-hold-spec =
@@ -42,5 +42,5 @@ entries-hold-spec =
     greatest-requires
     wide-requires
     returns
-    events-lead-on-requires
+    events-possible-requires
     returns-2)

@@ -1,103 +1,22 @@
--- `is_laid_out` meets its contract: one part of row 13 that fails fails it, and the last comes after all others hold.
-use Prim.Native.Nat.{_+_, _*_, _≤_}
-use mathlib.Core.Bool.{and-false}
-use native.Mathlib.Omega.{arith}
+-- `is_laid_out` meets its contract: the header, then the length.
+use mathlib.Core.Path.{_∙_}
+use Rattle.definitions.proofs.Accepted.{header-true}
+use Rattle.definitions.proofs.Tests.{held, failed}
 use borrow.Author.Needs.{needs}
-use borrow.Author.Tests.{lt-leb}
-use Rattle.definitions.specs.Bytes.{byte}
-use Rattle.definitions.specs.Book.{requests}
-use Rattle.definitions.proofs.Tests.{held, failed, within-true}
-use Rattle.bookcheck.proofs.Checks.{layout-last, size-fits}
 use Rattle.bookcheck.proofs.is_laid_out.Statement.{statement}
 use Rattle.bookcheck.proofs.is_laid_out.Tie as tie
 
--- n × w is small
-size : (c : tie.Else5) → c .before .before .states .result * (c .before .before .before .before .before .before .before .before .before .before .before .before .events .result + 2 * c .before .before .before .before .requests .result) ≤ 127 * 136
-size c =
-    let few = within-true 1 (c .before .before .states .result) 127 .0 (held _ _ (c .before .within2 .ensures) (c .if5 .left)) in
-    size-fits (c .before .before .states .result) (c .before .before .before .before .before .before .before .before .before .before .before .before .events .result) (c .before .before .before .before .requests .result) (few .1) (c .before .before .before .before .before .before .before .before .before .before .before .if1 .left) (c .before .before .before .if4 .left)
-
-events-requires : tie.Need-events-requires
-events-requires c κs = search needs
+header-holds-requires : tie.Need-header-holds-requires
+header-holds-requires c κs = search needs
 
 returns : tie.Need-returns
-returns c = simp (lt-leb (byte (c .before .before .before .args .book .now) 5) 8 (omega arith))
+returns c = simp (failed _ _ (c .before .header-holds .ensures) (c .if1 .taken))
 
-shared-slice-read-wide : tie.Need-shared-slice-read-wide
-shared-slice-read-wide c = search needs
-
-wide-requires : tie.Need-wide-requires
-wide-requires c κs = search needs
-
-within-requires : tie.Need-within-requires
-within-requires c κs = search needs
+is-exact-requires : tie.Need-is-exact-requires
+is-exact-requires c κs = (c .before .before .before .pre, header-true (c .before .before .before .args .book .now) (held _ _ (c .before .header-holds .ensures) (c .if1 .left)))
 
 returns-2 : tie.Need-returns-2
-returns-2 c = simp (rw (c .before .before .wide .ensures .0) at (failed _ _ (c .before .within .ensures) (c .if2 .taken)), and-false)
-
-counts-hold-requires : tie.Need-counts-hold-requires
-counts-hold-requires c κs = search needs
-
-returns-3 : tie.Need-returns-3
-returns-3 c = simp (failed _ _ (c .before .counts-hold .ensures) (c .if3 .taken), and-false)
-
-requests-requires : tie.Need-requests-requires
-requests-requires c κs =
-    let few = within-true 1 (c .before .before .before .before .wide .result) 4 .0 (held _ _ (c .before .before .before .within .ensures) (c .before .before .if2 .left)) in
-    (omega arith, omega arith)
-
-returns-4 : tie.Need-returns-4
-returns-4 c = simp (lt-leb (requests (c .before .before .before .before .before .before .before .before .before .before .before .args .book .now)) 64 (omega arith), and-false)
-
-states-requires : tie.Need-states-requires
-states-requires c κs = search needs
-
-within-requires-2 : tie.Need-within-requires-2
-within-requires-2 c κs = search needs
-
-returns-5 : tie.Need-returns-5
-returns-5 c = simp (rw (c .before .before .states .ensures) at (failed _ _ (c .before .within2 .ensures) (c .if5 .taken)), and-false)
-
-mul-result : tie.Need-mul-result
-mul-result c = search needs
-
-add-result : tie.Need-add-result
-add-result c = search needs
-
-mul-result-2 : tie.Need-mul-result-2
-mul-result-2 c = omega (arith, size c)
-
-add-result-2 : tie.Need-add-result-2
-add-result-2 c = omega (arith, size c)
-
-returns-6 : tie.Need-returns-6
-returns-6 c =
-    let e = c .before .before .before .before .before .before .before .before .before .before .before .before .events in
-    let q = c .before .before .before .before .requests in
-    let n = c .before .before .states in
-    layout-last (c .before .before .before .before .before .before .before .before .before .before .before .before .before .before .args .book .now) (e .result) (q .result) (n .result) (e .ensures) (q .ensures) (n .ensures) (c .before .before .before .before .before .before .before .before .before .before .before .if1 .left)
-    (rw (c .before .before .before .before .before .before .before .before .before .wide .ensures .0) at (held _ _ (c .before .before .before .before .before .before .before .before .within .ensures) (c .before .before .before .before .before .before .before .if2 .left)))
-    (held _ _ (c .before .before .before .before .before .before .counts-hold .ensures) (c .before .before .before .before .before .if3 .left)) (c .before .before .before .if4 .left) (held _ _ (c .before .within2 .ensures) (c .if5 .left))
+returns-2 c = c .is-exact .ensures ∙ rw (held _ _ (c .before .before .header-holds .ensures) (c .before .if1 .left))
 
 pub is-laid-out-spec : {M : Type 1} → statement M
-is-laid-out-spec =
-    tie.close
-    (tie.spec
-    events-requires
-    returns
-    shared-slice-read-wide
-    wide-requires
-    within-requires
-    returns-2
-    counts-hold-requires
-    returns-3
-    requests-requires
-    returns-4
-    states-requires
-    within-requires-2
-    returns-5
-    mul-result
-    add-result
-    mul-result-2
-    add-result-2
-    returns-6)
+is-laid-out-spec = tie.close (tie.spec header-holds-requires returns is-exact-requires returns-2)

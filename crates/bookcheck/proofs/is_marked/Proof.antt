@@ -1,70 +1,65 @@
--- `is_marked` meets its contract.
-use mathlib.Core.Bool.{and-false}
+-- `is_marked` meets its contract: the bytes passed so far are those of the mark and the version.
+use mathlib.Core.Path.{_≡_, refl, sym, _∙_}
+use mathlib.Core.Bool.{true}
+use Prim.Native.Nat.{_-_, _≤_}
+use native.Mathlib.Omega.{arith}
+use borrow.Author.Tests.{lt-leb, eq-eqb, ne-eqb}
+use Rattle.automaton.specs.Below.{allBelow}
+use Rattle.automaton.proofs.Loops.{all-more, all-fails, all-done}
+use Rattle.bookcheck.proofs.Checks.{asStart, marked-is}
 use borrow.Author.Needs.{needs}
-use borrow.Author.Tests.{lt-leb, ne-eqb}
-use Rattle.bookcheck.proofs.Checks.{marked-last}
 use Rattle.bookcheck.proofs.is_marked.Statement.{statement}
 use Rattle.bookcheck.proofs.is_marked.Tie as tie
 
-returns : tie.Need-returns
+abbrev Inv-loop : tie.InvT-loop
+Inv-loop book start i₀ i = (i ≤ 5) × (allBelow i (asStart book) ≡ true)
+
+abbrev μ-loop : tie.MeasureT-loop
+μ-loop book start i₀ i = 5 - i
+
+returns : tie.Need-returns Inv-loop μ-loop
 returns c = simp (lt-leb _ _ (c .if1 .taken))
 
-shared-slice-read-if2 : tie.Need-shared-slice-read-if2
+loop-holds : tie.Need-loop-holds Inv-loop μ-loop
+loop-holds c = (search needs, refl)
+
+shared-slice-read-if2 : tie.Need-shared-slice-read-if2 Inv-loop μ-loop
 shared-slice-read-if2 c = search needs
 
-returns-2 : tie.Need-returns-2
-returns-2 c = simp (ne-eqb _ _ (c .if2 .taken), and-false)
+array-read-if2 : tie.Need-array-read-if2 Inv-loop μ-loop
+array-read-if2 c = search needs
 
-shared-slice-read-if3 : tie.Need-shared-slice-read-if3
-shared-slice-read-if3 c = search needs
+returns-2 : tie.Need-returns-2 Inv-loop μ-loop
+returns-2 c =
+    let b = c .before .before .before .before .before .args .book .now in
+    all-fails (asStart b) 5 (c .before .before .before .loop .i) (omega arith) (ne-eqb _ _ (c .if2 .taken)) ∙ marked-is b (omega arith)
 
-returns-3 : tie.Need-returns-3
-returns-3 c = simp (ne-eqb _ _ (c .if3 .taken), and-false)
+add-i : tie.Need-add-i Inv-loop μ-loop
+add-i c = search needs
 
-shared-slice-read-if4 : tie.Need-shared-slice-read-if4
-shared-slice-read-if4 c = search needs
+loop-less : tie.Need-loop-less Inv-loop μ-loop
+loop-less c = search needs
 
-returns-4 : tie.Need-returns-4
-returns-4 c = simp (ne-eqb _ _ (c .if4 .taken), and-false)
+loop-again : tie.Need-loop-again Inv-loop μ-loop
+loop-again c = (search needs, all-more (asStart (c .before .before .before .before .before .args .book .now)) (c .before .before .before .loop .i) (c .before .before .before .loop .inv .1) (eq-eqb _ _ (c .if2 .left)))
 
-shared-slice-read-wide : tie.Need-shared-slice-read-wide
-shared-slice-read-wide c = search needs
-
-wide-requires : tie.Need-wide-requires
-wide-requires c κs = search needs
-
-mul-result : tie.Need-mul-result
-mul-result c = search needs
-
-shared-slice-read-wide-2 : tie.Need-shared-slice-read-wide-2
-shared-slice-read-wide-2 c = search needs
-
-wide-requires-2 : tie.Need-wide-requires-2
-wide-requires-2 c κs = search needs
-
-add-result : tie.Need-add-result
-add-result c = search needs
-
-returns-5 : tie.Need-returns-5
-returns-5 c =
-    marked-last (c .before .before .before .before .before .before .before .before .before .before .before .before .args .book .now) (c .before .before .wide .result) (c .wide2 .result)
-    (c .before .before .before .before .before .before .before .before .before .before .if1 .left) (c .before .before .before .before .before .before .before .before .if2 .left) (c .before .before .before .before .before .before .if3 .left) (c .before .before .before .before .if4 .left) (c .before .before .wide .ensures .0) (c .wide2 .ensures .0)
+returns-3 : tie.Need-returns-3 Inv-loop μ-loop
+returns-3 c =
+    let b = c .before .before .before .args .book .now in
+    all-done (asStart b) 5 (c .before .loop .i) (omega arith) (c .before .loop .inv .1) ∙ marked-is b (omega arith)
 
 pub is-marked-spec : {M : Type 1} → statement M
 is-marked-spec =
     tie.close
     (tie.spec
+    Inv-loop
+    μ-loop
     returns
+    loop-holds
     shared-slice-read-if2
+    array-read-if2
     returns-2
-    shared-slice-read-if3
-    returns-3
-    shared-slice-read-if4
-    returns-4
-    shared-slice-read-wide
-    wide-requires
-    mul-result
-    shared-slice-read-wide-2
-    wide-requires-2
-    add-result
-    returns-5)
+    add-i
+    loop-less
+    loop-again
+    returns-3)

@@ -1,7 +1,7 @@
 -- `policybook_verdict` meets its contract: what verdict answers is small enough to be packed.
 use lib.ListN.{length}
-use Rattle.verdict.specs.Within.{JudgedWithin}
-use Rattle.verdict.proofs.Within.{judged-within}
+use Rattle.verdict.specs.AnswerBounds.{JudgedWithin}
+use Rattle.verdict.proofs.AnswerBounds.{judged-within}
 use borrow.Author.Needs.{needs}
 use Rattle.policybook.proofs.policybook_verdict.Statement.{statement}
 use Rattle.policybook.proofs.policybook_verdict.Tie as tie

@@ -1,7 +1,7 @@
 -- `put_book` meets its contract: the verdict on a book that the checks pass is given, and the histories lie within the buffers.
 use native.Mathlib.Omega.{arith}
 use Rattle.definitions.proofs.Accepted.{book-passed}
-use Rattle.verdict.proofs.Within.{judged-within}
+use Rattle.verdict.proofs.AnswerBounds.{judged-within}
 use Rattle.shelftext.proofs.Texts.{book-put}
 use borrow.Author.Needs.{needs}
 use Rattle.shelftext.proofs.put_book.Statement.{statement}

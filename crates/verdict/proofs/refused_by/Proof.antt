@@ -1,6 +1,6 @@
 -- `refused_by` meets its contract: the rows are judged in their order.
 use mathlib.Core.Path.{_∙_}
-use Rattle.verdict.proofs.Judging.{short-conflict, short-missing, short-blocked, by-book}
+use Rattle.verdict.proofs.VerdictAnswer.{short-conflict, short-missing, short-blocked, by-book}
 use borrow.Author.Needs.{needs}
 use Rattle.verdict.proofs.refused_by.Statement.{statement}
 use Rattle.verdict.proofs.refused_by.Tie as tie

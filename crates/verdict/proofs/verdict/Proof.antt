@@ -1,5 +1,5 @@
 -- `verdict` meets its contract.
-use Rattle.verdict.proofs.Judging.{answer-refused, answer-given}
+use Rattle.verdict.proofs.VerdictAnswer.{answer-refused, answer-given}
 use borrow.Author.Needs.{needs}
 use Rattle.verdict.proofs.verdict.Statement.{statement}
 use Rattle.verdict.proofs.verdict.Tie as tie

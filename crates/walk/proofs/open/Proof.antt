@@ -1,6 +1,6 @@
 -- `open` meets its contract.
 use borrow.Author.Needs.{needs}
-use Rattle.walk.proofs.Walking.{open-refused, open-starts}
+use Rattle.walk.proofs.CallCases.{open-refused, open-starts}
 use Rattle.walk.proofs.open.Statement.{statement}
 use Rattle.walk.proofs.open.Tie as tie
 

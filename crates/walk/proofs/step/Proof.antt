@@ -1,4 +1,4 @@
--- `step` meets its contract: each way out is a case of Walking.
+-- `step` meets its contract: each way out is a case of CallCases.
 use mathlib.Core.Path.{_≡_, sym, ap, _∙_}
 use mathlib.Core.Bool.{and-false}
 use Prim.Native.Nat.{_≤_}
@@ -11,7 +11,7 @@ use Rattle.definitions.specs.Refusal.{bookRefusal}
 use Rattle.definitions.proofs.Tests.{held, failed, within-true}
 use Rattle.definitions.proofs.Accepted.{book-passed}
 use Rattle.definitions.proofs.BookSteps.{step-is-entry}
-use Rattle.walk.proofs.Walking.{step-refused, step-outside, step-taken}
+use Rattle.walk.proofs.CallCases.{step-refused, step-outside, step-taken}
 use Rattle.walk.proofs.step.Statement.{statement}
 use Rattle.walk.proofs.step.Tie as tie
 

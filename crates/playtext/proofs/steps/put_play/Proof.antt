@@ -6,12 +6,12 @@ use borrow.Author.Needs.{needs}
 use Rattle.playtext.proofs.steps.put_play.Statement.{statement}
 use Rattle.playtext.proofs.steps.put_play.Tie as tie
 
-start-requires : tie.Need-start-requires
-start-requires c κs = search needs
+open-requires : tie.Need-open-requires
+open-requires c κs = search needs
 
 put-answer-requires : tie.Need-put-answer-requires
 put-answer-requires c κs =
-    let o = c .before .start in
+    let o = c .before .open in
     let s = c .before .before .before .before .before in
     (open-stands (s .args .book .now) (o .result .number) (o .result .state) (o .ensures .0) (o .ensures .1), omega (arith, s .pre))
 
@@ -21,7 +21,7 @@ same-length c = search needs
 returns : tie.Need-returns
 returns c =
     let p = c .before .before .before .before in
-    let o = p .before .before .start in
+    let o = p .before .before .open in
     let s = p .before .before .before .before .before .before in
     let put = p .put-answer .ensures in
     (only-opened (s .args .book .now) (o .result .number) (o .result .state) (o .ensures .0) (o .ensures .1) (s .args .codes .now) (put .0) (c .if1 .taken), omega (arith, put .1))
@@ -29,7 +29,7 @@ returns c =
 put-steps-requires : tie.Need-put-steps-requires
 put-steps-requires c κs =
     let p = c .before .before .before .before .before in
-    let o = p .before .before .start in
+    let o = p .before .before .open in
     let s = p .before .before .before .before .before .before in
     let put = p .put-answer .ensures in
     (open-stands (s .args .book .now) (o .result .number) (o .result .state) (o .ensures .0) (o .ensures .1) (c .before .if1 .left), omega (arith, put .1, put-length (put .0), s .pre))
@@ -41,7 +41,7 @@ returns-2 : tie.Need-returns-2
 returns-2 c =
     let e = c .before .before .before .before in
     let p = e .before .before .before .before in
-    let o = p .before .before .start in
+    let o = p .before .before .open in
     let s = p .before .before .before .before .before .before in
     let put = p .put-answer .ensures in
     let steps = c .before .before .put-steps .ensures in
@@ -51,7 +51,7 @@ pub put-play-spec : {M : Type 1} → statement M
 put-play-spec =
     tie.close
     (tie.spec
-    start-requires
+    open-requires
     put-answer-requires
     same-length
     returns

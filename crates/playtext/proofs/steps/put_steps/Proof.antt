@@ -24,8 +24,8 @@ shared-slice-read-wide c = search needs
 wide-requires : tie.Need-wide-requires Inv-loop μ-loop
 wide-requires c κs = search needs
 
-step-from-requires : tie.Need-step-from-requires Inv-loop μ-loop
-step-from-requires c κs = search needs
+step-requires : tie.Need-step-requires Inv-loop μ-loop
+step-requires c κs = search needs
 
 put-answer-requires : tie.Need-put-answer-requires Inv-loop μ-loop
 put-answer-requires c κs =
@@ -33,7 +33,7 @@ put-answer-requires c κs =
     let l = w .before .before .before in
     let s = l .before .before .before .before in
     let t = l .loop .inv .1 in
-    (λ _. there-stands (s .args .book .now) (s .args .start) (s .args .codes .now) (s .args .out .now) (s .args .at) t (w .wide .result) (c .before .step-from .result .state) (c .before .step-from .ensures .1), omega (arith, t .short, s .pre .1, w .before .before .loop-test .taken, l .loop .inv .0))
+    (λ _. there-stands (s .args .book .now) (s .args .start) (s .args .codes .now) (s .args .out .now) (s .args .at) t (w .wide .result) (c .before .step .result .state) (c .before .step .ensures .1), omega (arith, t .short, s .pre .1, w .before .before .loop-test .taken, l .loop .inv .0))
 
 add-i : tie.Need-add-i Inv-loop μ-loop
 add-i c = search needs
@@ -51,7 +51,7 @@ loop-again c =
     let t = l .loop .inv .1 in
     let put = p .put-answer .ensures in (
       put-length (put .0) ∙ l .loop .inv .0,
-      more (s .args .book .now) (s .args .start) (s .args .codes .now) (s .args .out .now) (s .args .at) t (w .wide .result) (f .step-from .result .number) (f .step-from .result .state) (w .before .before .loop-test .taken) (w .wide .ensures .0) (f .step-from .ensures .0) (f .step-from .ensures .1) (put .0) (put .1),
+      more (s .args .book .now) (s .args .start) (s .args .codes .now) (s .args .out .now) (s .args .at) t (w .wide .result) (f .step .result .number) (f .step .result .state) (w .before .before .loop-test .taken) (w .wide .ensures .0) (f .step .ensures .0) (f .step .ensures .1) (put .0) (put .1),
     )
 
 same-length : tie.Need-same-length Inv-loop μ-loop
@@ -72,7 +72,7 @@ put-steps-spec =
     loop-holds
     shared-slice-read-wide
     wide-requires
-    step-from-requires
+    step-requires
     put-answer-requires
     add-i
     loop-less

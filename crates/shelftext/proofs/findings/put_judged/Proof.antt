@@ -2,7 +2,7 @@
 use mathlib.Core.Path.{refl}
 use native.Mathlib.Omega.{arith}
 use lib.ListN.{length}
-use Rattle.verdict.specs.Within.{FindingsWithin}
+use Rattle.verdict.specs.AnswerBounds.{FindingsWithin}
 use borrow.Author.Needs.{needs}
 use Rattle.shelftext.proofs.findings.put_judged.Statement.{statement}
 use Rattle.shelftext.proofs.findings.put_judged.Tie as tie

@@ -1,56 +1,62 @@
 -- `find` meets its contract: the first place with a request that is sought, its lowest such request and its history.
 use native.Mathlib.Omega.{arith}
-use Rattle.verdict.proofs.Places.{says-none, says-found}
+use denote.Ref.{now}
+use Rattle.verdict.proofs.FirstStates.{book-few, book-inside, book-trail, says-none, says-found}
 use borrow.Author.Needs.{needs}
 use Rattle.verdict.proofs.finding.find.Statement.{statement}
 use Rattle.verdict.proofs.finding.find.Tie as tie
 
-requests-requires : tie.Need-requests-requires
-requests-requires c κs = let laid = c .before .before .before .before .pre .0 .0 .layout in (omega (arith, laid .exact), laid .header .fieldsMost)
-
 first-with-requires : tie.Need-first-with-requires
 first-with-requires c κs =
-    let s = c .before .before .before .before .before in
-    ((s .pre .0 .0, s .pre .0 .1, c .requests .ensures), (omega (arith, s .pre .1 .0), s .pre .0 .2))
+    let p = c .before .before .before .before .pre in
+    (p .0 .0, omega (arith, book-few _ (p .0 .1) (p .0 .0), p .1 .0), book-inside _ (p .0 .1) (p .0 .0))
 
 returns : tie.Need-returns
-returns c = let a = c .before .before .before .before .before .before .before .args in says-none (a .sought) (a .book .now) (a .order .now) (a .trail .now) (a .n) (omega (arith, c .before .first-with .ensures, c .if1 .taken)) (a .buffer .now)
+returns c =
+    let s = c .before .before .before .before .before .before in
+    says-none (s .args .sought) _ (s .pre .0 .1) (omega (arith, c .before .first-with .ensures, c .if1 .taken)) (now (s .args .buffer))
+
+width-requires : tie.Need-width-requires
+width-requires c κs = search needs
+
+requests-requires : tie.Need-requests-requires
+requests-requires c κs = search needs
 
 shared-slice-read-wide : tie.Need-shared-slice-read-wide
-shared-slice-read-wide c = omega (arith, c .before .if1 .left, c .before .before .before .before .before .before .before .before .pre .1 .0)
+shared-slice-read-wide c = let p = c .before .before .before .before .before .before .before .before .before .pre in omega (arith, c .before .before .before .if1 .left, book-few _ (p .0 .1) (p .0 .0), p .1 .0)
 
 wide-requires : tie.Need-wide-requires
 wide-requires c κs = search needs
 
 lowest-requires : tie.Need-lowest-requires
 lowest-requires c κs =
-    let s = c .before .before .before .before .before .before .before .before .before in
-    let inside = s .pre .0 .2 _ (c .before .before .if1 .left) in
-    ((s .pre .0 .0, s .pre .0 .1, c .before .before .before .before .requests .ensures), omega (arith, c .wide .ensures, inside))
+    let p = c .before .before .before .before .before .before .before .before .before .before .pre in
+    let inside = book-inside _ (p .0 .1) (p .0 .0) _ (c .before .before .before .before .if1 .left) in
+    ((p .0 .0, c .before .before .before .width .ensures, c .before .before .requests .ensures), omega (arith, c .wide .ensures, inside))
 
 write-history-requires : tie.Need-write-history-requires
 write-history-requires c κs =
-    let s = c .before .before .before .before .before .before .before .before .before .before .before in
-    let l = c .before .before .before .before .if1 .left in
-    (omega (arith, s .pre .1 .0), (λ j h. s .pre .1 .1 j (omega (arith, l)), omega (arith, s .pre .1 .0)))
+    let p = c .before .before .before .before .before .before .before .before .before .before .before .before .pre in
+    book-trail _ (p .0 .1) (p .0 .0) _ (c .before .before .before .before .before .before .if1 .left) (p .1 .1) _ (p .1 .2)
 
 same-length : tie.Need-same-length
 same-length c = search needs
 
 returns-2 : tie.Need-returns-2
 returns-2 c =
-    let a = c .before .before .before .before .before .before .before .before .before .before .before .before .before .before .args in
+    let s = c .before .before .before .before .before .before .before .before .before .before .before .before .before .before .before in
     let e = c .before .before .write-history .ensures in
-    says-found (a .sought) (a .book .now) (a .order .now) (a .trail .now) (a .n) _ _ _ _ _ (a .buffer .now) _ (c .before .before .before .before .before .before .before .before .first-with .ensures) (c .before .before .before .before .before .before .before .if1 .left)
-    (c .before .before .before .before .before .wide .ensures .0) (c .before .before .before .before .before .before .before .before .before .requests .ensures) (c .before .before .before .before .lowest .ensures) (e .0) (e .1)
+    says-found (s .args .sought) _ (s .pre .0 .1) _ _ _ _ _ (now (s .args .buffer)) _ (c .before .before .before .before .before .before .before .before .before .before .first-with .ensures) (c .before .before .before .before .before .before .before .before .before .if1 .left) (c .before .before .before .before .before .wide .ensures .0)
+    (c .before .before .before .before .before .before .before .requests .ensures) (c .before .before .before .before .lowest .ensures) (e .0) (e .1)
 
 pub find-spec : {M : Type 1} → statement M
 find-spec =
     tie.close
     (tie.spec
-    requests-requires
     first-with-requires
     returns
+    width-requires
+    requests-requires
     shared-slice-read-wide
     wide-requires
     lowest-requires

@@ -8,7 +8,7 @@ use Rattle.automaton.specs.Machine.{isState}
 use Rattle.definitions.specs.Bytes.{byte}
 use Rattle.definitions.proofs.BookSteps.{is-state}
 use Rattle.verdict.specs.Marks.{unmarkedAt}
-use Rattle.verdict.proofs.Lowest.{NoneBelow, lowest-hit, lowest-end}
+use Rattle.verdict.proofs.LowestBelow.{NoneBelow, lowest-hit, lowest-end}
 use borrow.Author.Needs.{needs}
 use Rattle.verdict.proofs.finding.first_unmarked.Statement.{statement}
 use Rattle.verdict.proofs.finding.first_unmarked.Tie as tie

@@ -3,18 +3,24 @@ use Prim.Native.Nat.{_-_, _≤_}
 use native.Mathlib.Omega.{arith}
 use borrow.Author.Count.{below-more}
 use Rattle.definitions.specs.Bytes.{byte}
-use Rattle.verdict.specs.Requests.{someAt}
-use Rattle.verdict.proofs.Lowest.{NoneBelow, lowest-hit, lowest-end}
-use Rattle.verdict.proofs.Seeking.{some-sought, none-sought}
+use Rattle.verdict.specs.SoughtRequests.{someAt}
+use Rattle.verdict.proofs.LowestBelow.{NoneBelow, lowest-hit, lowest-end}
+use Rattle.verdict.proofs.SoughtRequests.{some-sought, none-sought}
 use borrow.Author.Needs.{needs}
 use Rattle.verdict.proofs.finding.first_with.Statement.{statement}
 use Rattle.verdict.proofs.finding.first_with.Tie as tie
 
 abbrev Inv-loop : tie.InvT-loop
-Inv-loop book width requests order n sought k₀ k = (k ≤ n) × NoneBelow (someAt sought book order) k
+Inv-loop book order n sought w q k₀ k = (k ≤ n) × NoneBelow (someAt sought book order) k
 
 abbrev μ-loop : tie.MeasureT-loop
-μ-loop book width requests order n sought k₀ k = n - k
+μ-loop book order n sought w q k₀ k = n - k
+
+width-requires : tie.Need-width-requires Inv-loop μ-loop
+width-requires c κs = c .before .before .pre .0 .layout
+
+requests-requires : tie.Need-requests-requires Inv-loop μ-loop
+requests-requires c κs = let laid = c .before .before .before .pre .0 .layout in (omega (arith, laid .exact), laid .header .fieldsMost)
 
 loop-holds : tie.Need-loop-holds Inv-loop μ-loop
 loop-holds c = (search needs, λ j l. absurd (omega arith))
@@ -27,16 +33,16 @@ wide-requires c κs = search needs
 
 lowest-requires : tie.Need-lowest-requires Inv-loop μ-loop
 lowest-requires c κs =
-    let s = c .before .before .before .before .before .before in
-    let inside = s .pre .1 .1 (c .before .before .before .loop .k) (c .before .before .loop-test .taken) in
-    (s .pre .0, omega (arith, c .wide .ensures, inside))
+    let s = c .before .before .before .before .before .before .before .before in
+    let inside = s .pre .2 (c .before .before .before .loop .k) (c .before .before .loop-test .taken) in
+    ((s .pre .0, c .before .before .before .before .before .width .ensures, c .before .before .before .before .requests .ensures), omega (arith, c .wide .ensures, inside))
 
 returns : tie.Need-returns Inv-loop μ-loop
 returns c =
-    let a = c .before .before .before .before .before .before .before .before .args in
+    let a = c .before .before .before .before .before .before .before .before .before .before .args in
     let l = c .before .before .before .before .before .loop in
     lowest-hit (someAt (a .sought) (a .book .now) (a .order .now)) (a .n) (l .k) (l .inv .1) (c .before .before .before .before .loop-test .taken)
-    (some-sought (a .sought) (a .book .now) (byte (a .order .now) (l .k)) _ (a .requests) _ (c .before .before .wide .ensures .0) (c .before .before .before .before .before .before .before .before .pre .0 .2) (c .before .lowest .ensures) (c .if1 .taken))
+    (some-sought (a .sought) (a .book .now) (byte (a .order .now) (l .k)) _ _ _ (c .before .before .wide .ensures .0) (c .before .before .before .before .before .before .requests .ensures) (c .before .lowest .ensures) (c .if1 .taken))
 
 add-k : tie.Need-add-k Inv-loop μ-loop
 add-k c = search needs
@@ -46,16 +52,14 @@ loop-less c = search needs
 
 loop-again : tie.Need-loop-again Inv-loop μ-loop
 loop-again c =
-    let a = c .before .before .before .before .before .before .before .before .args in
-    let l = c .before .before .before .before .before .loop in (
-      search needs,
-      below-more _ _ (l .inv .1)
-          (none-sought (a .sought) (a .book .now) (byte (a .order .now) (l .k)) _ (a .requests) _ (c .before .before .wide .ensures .0) (c .before .before .before .before .before .before .before .before .pre .0 .2) (c .before .lowest .ensures) (c .if1 .left)),
-    )
+    let a = c .before .before .before .before .before .before .before .before .before .before .args in
+    let l = c .before .before .before .before .before .loop in
+    let none = none-sought (a .sought) (a .book .now) (byte (a .order .now) (l .k)) _ _ _ (c .before .before .wide .ensures .0) (c .before .before .before .before .before .before .requests .ensures) (c .before .lowest .ensures) (c .if1 .left) in
+    (search needs, below-more _ _ (l .inv .1) none)
 
 returns-2 : tie.Need-returns-2 Inv-loop μ-loop
 returns-2 c =
-    let a = c .before .before .before .before .args in
+    let a = c .before .before .before .before .before .before .args in
     let l = c .before .loop in
     lowest-end (someAt (a .sought) (a .book .now) (a .order .now)) (a .n) (l .k) (l .inv .1) (c .loop-test .left) (l .inv .0)
 
@@ -65,6 +69,8 @@ first-with-spec =
     (tie.spec
     Inv-loop
     μ-loop
+    width-requires
+    requests-requires
     loop-holds
     shared-slice-read-wide
     wide-requires

@@ -2,7 +2,7 @@
 use mathlib.Core.Path.{refl, sym, ap}
 use Rattle.automaton.specs.Below.{one}
 use Rattle.verdict.specs.declared.requests.Sought.the-variants.{Answer}
-use Rattle.verdict.proofs.Seeking.{some-sought, none-sought}
+use Rattle.verdict.proofs.SoughtRequests.{some-sought, none-sought}
 use borrow.Author.Needs.{needs}
 use Rattle.verdict.proofs.marks.answers.Statement.{statement}
 use Rattle.verdict.proofs.marks.answers.Tie as tie

@@ -1,19 +1,23 @@
--- `mark` meets its contract: a round that marks a state makes the marks more, and the last one leaves them settled.
+-- `mark` meets its contract: a round that marks a state makes the marks more, and after the last one they are a fixed point.
 use mathlib.Core.Path.{_≡_, refl}
 use Prim.Native.Nat.{_+_, _-_}
 use native.Mathlib.Omega.{arith}
 use lib.ListN.{length}
-use Rattle.verdict.specs.Marks.{countMarks, Marks, Settled}
-use Rattle.verdict.proofs.Marking.{count-few}
+use Rattle.definitions.specs.Book.{width}
+use Rattle.verdict.specs.Marks.{countMarks, Marks, FixedPoint}
+use Rattle.verdict.proofs.MarkRounds.{count-few}
 use borrow.Author.Needs.{needs}
 use Rattle.verdict.proofs.marks.mark.Statement.{statement}
 use Rattle.verdict.proofs.marks.mark.Tie as tie
 
 abbrev Inv-loop : tie.InvT-loop
-Inv-loop book width marks₀ gained₀ marks gained = Marks book marks × (gained ≡ 0 → Settled book marks) × (length marks ≡ length marks₀)
+Inv-loop book marks₀ w gained₀ marks gained = Marks book marks × (gained ≡ 0 → FixedPoint book marks) × (length marks ≡ length marks₀)
 
 abbrev μ-loop : tie.MeasureT-loop
-μ-loop book width marks₀ gained₀ marks gained = 128 - countMarks marks + gained
+μ-loop book marks₀ w gained₀ marks gained = 128 - countMarks marks + gained
+
+width-requires : tie.Need-width-requires Inv-loop μ-loop
+width-requires c κs = c .before .before .pre .0 .layout
 
 mark-answering-requires : tie.Need-mark-answering-requires Inv-loop μ-loop
 mark-answering-requires c κs = search needs
@@ -21,17 +25,17 @@ mark-answering-requires c κs = search needs
 loop-holds : tie.Need-loop-holds Inv-loop μ-loop
 loop-holds c = (c .before .before .mark-answering .ensures, λ e. absurd (omega arith), refl)
 
-spread-requires : tie.Need-spread-requires Inv-loop μ-loop
-spread-requires c κs = (c .before .before .before .before .before .before .before .before .before .pre .0, c .before .before .before .before .before .before .before .before .before .pre .1, c .before .before .loop .inv .0)
+mark-round-requires : tie.Need-mark-round-requires Inv-loop μ-loop
+mark-round-requires c κs = (c .before .before .before .before .before .before .before .before .before .before .pre .0, c .before .before .before .before .before .before .before .width .ensures, c .before .before .loop .inv .0)
 
 loop-less : tie.Need-loop-less Inv-loop μ-loop
 loop-less c =
-    let e = c .before .before .spread .ensures .0 .1 in
-    let few = count-few (c .before .before .spread .last .1 .1 .0) in
+    let e = c .before .before .mark-round .ensures .0 .1 in
+    let few = count-few (c .before .before .mark-round .last .1 .1 .0) in
     omega (arith, e, few, c .before .before .before .before .loop-test .taken)
 
 loop-again : tie.Need-loop-again Inv-loop μ-loop
-loop-again c = let e = c .before .before .spread .ensures in (e .0 .0, e .1, search needs)
+loop-again c = let e = c .before .before .mark-round .ensures in (e .0 .0, e .1, search needs)
 
 same-length : tie.Need-same-length Inv-loop μ-loop
 same-length c = search needs
@@ -45,9 +49,10 @@ mark-spec =
     (tie.spec
     Inv-loop
     μ-loop
+    width-requires
     mark-answering-requires
     loop-holds
-    spread-requires
+    mark-round-requires
     loop-less
     loop-again
     same-length

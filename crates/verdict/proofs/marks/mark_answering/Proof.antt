@@ -3,7 +3,7 @@ use mathlib.Core.Path.{_≡_, refl}
 use Prim.Native.Nat.{_+_, _-_}
 use native.Mathlib.Omega.{arith}
 use lib.ListN.{length}
-use Rattle.verdict.proofs.Marking.{Begun, begun-none, begun-more, begun-all}
+use Rattle.verdict.proofs.MarkRounds.{Begun, begun-none, begun-more, begun-all}
 use borrow.Author.Needs.{needs}
 use Rattle.verdict.proofs.marks.mark_answering.Statement.{statement}
 use Rattle.verdict.proofs.marks.mark_answering.Tie as tie
