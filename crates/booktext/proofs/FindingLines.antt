@@ -7,7 +7,8 @@ use Rattle.definitions.specs.Answer.{Answer, given}
 use Rattle.definitions.specs.Book.{states}
 use Rattle.definitions.specs.Refusal.{bookRefusal}
 use Rattle.definitions.specs.Verdict.{Findings, findings, verdictAnswer, conflict, missing, blocked}
-use Rattle.definitions.specs.Shelf.{decimal, line, foundText, blockedText, statesWord, conflictWord, missingWord, blockedWord, bookText}
+use Rattle.definitions.specs.Decimal.{decimal}
+use Rattle.definitions.specs.Shelf.{line, foundText, blockedText, statesWord, conflictWord, missingWord, blockedWord, bookText}
 use Rattle.verdict.proofs.Judging.{by-book, answer-given}
 use Rattle.text.specs.Put.{Put}
 use Rattle.booktext.specs.FindingLines.{judgedLines, findingLines}
