@@ -66,16 +66,25 @@ fn put_found_line(out: &mut [u8], at: usize, word: &[u8], finding: Finding, buff
     put_found(out, next, finding, buffer)
 }
 
+// The line of blocked with a history.
+fn put_blocked_line(out: &mut [u8], at: usize, history: &[u8]) -> usize
+    requires { ⌜ at + 4 * length (now history) + 12 ≤ length (now out) ⌝ }
+    ensures { λ r. ⌜ Put (now (out .entry)) at (line blockedWord (historyText (now (history .entry)))) (now (out .exit)) r ⌝ }
+    ensures { λ r. ⌜ r ≤ at + 4 * length (now (history .entry)) + 12 ⌝ }
+{
+    let next = put(out, at, b"blocked ");
+    put_history(out, next, history)
+}
+
 // The line of blocked: the history at the front of the buffer, or that there is none.
 fn put_blocked(out: &mut [u8], at: usize, blocked: Blocked, buffer: &[u8]) -> usize
     requires { ⌜ (length (now buffer) ≤ 128) × (at + 529 ≤ length (now out)) ⌝ }
     ensures { λ r. ⌜ Put (now (out .entry)) at (line blockedWord (blockedText (blockedOf blocked (now (buffer .entry))))) (now (out .exit)) r ⌝ }
     ensures { λ r. ⌜ r ≤ at + 529 ⌝ }
 {
-    let next = put(out, at, b"blocked ");
     match blocked {
-        Blocked::None => put(out, next, b"-\n"),
-        Blocked::After { length } => put_history(out, next, first(buffer, length)),
+        Blocked::None => put(out, at, b"blocked -\n"),
+        Blocked::After { length } => put_blocked_line(out, at, first(buffer, length)),
     }
 }
 

@@ -3,13 +3,13 @@
 // reported on standard error, and the case is not judged.
 mod line;
 
-use automaton::wide;
 use line::case_line;
 use streams::Input;
 use streams::read_input;
 use streams::report;
 use streams::write_output;
 use text::first;
+use text::two_bytes;
 
 // Writes the line of a policy. Returns whether it was written.
 fn judge(policy: &[u8]) -> bool {
@@ -61,7 +61,7 @@ fn take_bytes(n: usize) -> bool {
 fn take_case() -> bool {
     let mut head = [0u8; 2];
     let read = read_input(&mut head);
-    begins(read) && is_whole(read, 2) && take_bytes(wide(head[0]) * 256 + wide(head[1]))
+    begins(read) && is_whole(read, 2) && take_bytes(two_bytes(&head))
 }
 
 // A proved loop has to end, and nothing says that the input does: so the turns are counted down from a number that no input uses up.

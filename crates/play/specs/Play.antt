@@ -1,10 +1,10 @@
 -- The text that `play` writes: a line after the opening of a book, and one after each step of a list.
 use mathlib.Core.Bool.{cond}
 use mathlib.Core.List.{List, [], _∷_, _++_}
-use Prim.Native.Nat.{ℕ, _+_, _*_}
+use Prim.Native.Nat.{ℕ}
 use lib.Dec.{eqb}
 use lib.ListN.{take, drop}
-use Rattle.definitions.specs.Bytes.{byte}
+use Rattle.definitions.specs.Bytes.{twoBytes}
 use Rattle.definitions.specs.Opened.{openRefusal, stepRefusal, stepState}
 use Rattle.walk.specs.Walk.{openState}
 use Rattle.play.specs.StateLines.{answerLine}
@@ -21,14 +21,11 @@ playLines b cs =
     answerLine b (openRefusal b) (openState b) ++ cond (eqb (openRefusal b) 0) tried []
 
 -- ---- the input: the length of the book in two bytes, the high byte first, the book, and one byte for each step; of more than 255 steps the first 255 are played
-abbrev pub lengthIn : List ℕ → ℕ
-lengthIn input = 256 * byte input 0 + byte input 1
-
 abbrev pub bookIn : List ℕ → List ℕ
-bookIn input = take (lengthIn input) (drop 2 input)
+bookIn input = take (twoBytes input 0) (drop 2 input)
 
 abbrev pub codesIn : List ℕ → List ℕ
-codesIn input = take 255 (drop (lengthIn input) (drop 2 input))
+codesIn input = take 255 (drop (twoBytes input 0) (drop 2 input))
 
 unfoldable pub playText : List ℕ → List ℕ
 unfolding playLines

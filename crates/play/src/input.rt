@@ -1,13 +1,12 @@
 // The text for an input: a book and a list of steps are taken out of it, the book is opened, and a line is written after the opening and after each step.
 ghost use mathlib.Core.Path.{_≡_};
-ghost use lib.ListN.{length, take, drop};
-ghost use Prim.Native.Nat.{_≤_, _<_};
-ghost use Rattle.definitions.specs.Bytes.{byte};
+ghost use lib.ListN.{length, drop};
+ghost use Prim.Native.Nat.{_≤_};
 ghost use Rattle.text.specs.Room.{lengthWithin, writtenWithin};
-ghost use Rattle.play.specs.Play.{lengthIn, playText};
+ghost use Rattle.play.specs.Play.{playText};
 use crate::steps::put_play;
-use automaton::wide;
 use text::first;
+use text::two_bytes;
 
 // The text for an input. A buffer under 131,072 bytes gets nothing, and the answer is 0.
 pub fn play(input: &[u8], out: &mut [u8]) -> usize
@@ -19,22 +18,8 @@ pub fn play(input: &[u8], out: &mut [u8]) -> usize
         return 0;
     }
     let rest = without(input, 2);
-    let length = book_length(input);
+    let length = two_bytes(input);
     put_play(first(rest, length), first(without(rest, length), 255), out)
-}
-
-// The length of the book, in the first two bytes, the high byte first.
-fn book_length(input: &[u8]) -> usize
-    ensures { λ r. ⌜ r ≡ lengthIn (now (input .entry)) ⌝ }
-{
-    256 * byte_at(input, 0) + byte_at(input, 1)
-}
-
-// A byte, 0 after the end.
-fn byte_at(s: &[u8], i: usize) -> usize
-    ensures { λ r. ⌜ (r ≡ byte (now (s .entry)) i) × (r < 256) ⌝ }
-{
-    if i < s.len() { wide(s[i]) } else { 0 }
 }
 
 // What follows the first n bytes.

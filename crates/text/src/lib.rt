@@ -1,8 +1,9 @@
-// Writers of text. Each puts its text into a buffer from a place on, leaves every other byte unchanged, and returns the place after the text.
+// Writers of text: each puts its text into a buffer from a place on, leaves every other byte unchanged, and returns the place after the text. And parts of an input.
 ghost use mathlib.Core.Path.{_≡_};
 ghost use mathlib.Core.List.{[], _∷_, _++_};
 ghost use Prim.Native.Nat.{_+_, _*_, _/_, _≤_, _<_};
 ghost use lib.ListN.{length, take};
+ghost use Rattle.definitions.specs.Bytes.{byte, twoBytes};
 ghost use Rattle.definitions.specs.Decimal.{digit, decimal};
 ghost use Rattle.definitions.specs.Shelf.{blank, newline, codesText};
 ghost use Rattle.text.specs.Put.{Put};
@@ -99,6 +100,7 @@ pub fn put_number_line(out: &mut [u8], at: usize, word: &[u8], n: usize) -> usiz
     put_byte(out, end, b'\n')
 }
 
+// ---- parts of an input
 // The first n bytes, or all where there are fewer.
 pub fn first(s: &[u8], n: usize) -> &[u8]
     ensures { λ r. ⌜ now r ≡ take n (now (s .entry)) ⌝ }
@@ -108,4 +110,18 @@ pub fn first(s: &[u8], n: usize) -> &[u8]
         return &s[..n];
     }
     s
+}
+
+// A byte, 0 after the end.
+fn byte_at(s: &[u8], i: usize) -> usize
+    ensures { λ r. ⌜ (r ≡ byte (now (s .entry)) i) × (r < 256) ⌝ }
+{
+    if i < s.len() { wide(s[i]) } else { 0 }
+}
+
+// The number in the first two bytes, the high byte first.
+pub fn two_bytes(s: &[u8]) -> usize
+    ensures { λ r. ⌜ r ≡ twoBytes (now (s .entry)) 0 ⌝ }
+{
+    byte_at(s, 0) * 256 + byte_at(s, 1)
 }

@@ -1,9 +1,11 @@
--- `put_blocked` meets its contract: the word, and what is told in both cases.
+-- `put_blocked` meets its contract in both cases.
 use native.Mathlib.Omega.{arith}
-use Rattle.text.proofs.Puts.{then}
 use borrow.Author.Needs.{needs}
 use Rattle.booktext.proofs.findings.put_blocked.Statement.{statement}
 use Rattle.booktext.proofs.findings.put_blocked.Tie as tie
+
+enum-told : tie.Need-enum-told
+enum-told c = search needs
 
 slice-aggregate-put : tie.Need-slice-aggregate-put
 slice-aggregate-put c = search needs
@@ -11,30 +13,21 @@ slice-aggregate-put c = search needs
 put-requires : tie.Need-put-requires
 put-requires c κs = search needs
 
-enum-told : tie.Need-enum-told
-enum-told c = search needs
-
-slice-aggregate-put-2 : tie.Need-slice-aggregate-put-2
-slice-aggregate-put-2 c = search needs
-
-put-requires-2 : tie.Need-put-requires-2
-put-requires-2 c κs = search needs
-
 enum-known-blocked : tie.Need-enum-known-blocked
 enum-known-blocked c = search needs
 
 first-requires : tie.Need-first-requires
 first-requires c κs = search needs
 
-put-history-requires : tie.Need-put-history-requires
-put-history-requires c κs = search needs
+put-blocked-line-requires : tie.Need-put-blocked-line-requires
+put-blocked-line-requires c κs = search needs
 
 same-length : tie.Need-same-length
 same-length c = search needs
 
 returns : tie.Need-returns
 returns c =
-    (rw (c .before .before .before .before .before .enum-told .given .1) (then (c .before .before .before .before .before .before .before .before .before .put .ensures) (c .before .before .put2 .ensures)), omega arith)
+    (rw (c .before .before .before .before .before .enum-told .given .1) (c .before .before .put .ensures), omega arith)
 
 same-length-2 : tie.Need-same-length-2
 same-length-2 c = search needs
@@ -42,20 +35,18 @@ same-length-2 c = search needs
 returns-2 : tie.Need-returns-2
 returns-2 c =
     let k = c .before .before .before .before .before .before .blocked .given in
-    (rw (k .1) (then (c .before .before .before .before .before .before .before .before .before .before .put .ensures) (rw (c .before .before .before .first .ensures .0) at (c .before .before .put-history .ensures .0))), omega arith)
+    (rw (k .1) (rw (c .before .before .before .first .ensures .0) at (c .before .before .put-blocked-line .ensures .0)), omega arith)
 
 pub put-blocked-spec : {M : Type 1} → statement M
 put-blocked-spec =
     tie.close
     (tie.spec
+    enum-told
     slice-aggregate-put
     put-requires
-    enum-told
-    slice-aggregate-put-2
-    put-requires-2
     enum-known-blocked
     first-requires
-    put-history-requires
+    put-blocked-line-requires
     same-length
     returns
     same-length-2

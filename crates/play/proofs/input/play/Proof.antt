@@ -15,8 +15,8 @@ returns c =
 without-requires : tie.Need-without-requires
 without-requires c κs = search needs
 
-book-length-requires : tie.Need-book-length-requires
-book-length-requires c κs = search needs
+two-bytes-requires : tie.Need-two-bytes-requires
+two-bytes-requires c κs = search needs
 
 first-requires : tie.Need-first-requires
 first-requires c κs = search needs
@@ -42,7 +42,7 @@ returns-2 c =
     let r = n .before in
     let s = r .before .before .before .before in
     let put = c .before .before .put-play .ensures in
-    let read = input-read (s .args .input .now) _ _ _ _ _ (r .without .ensures) (n .book-length .ensures) (b .first .ensures .0) (w .without2 .ensures) (f .first2 .ensures .0) in
+    let read = input-read (s .args .input .now) _ _ _ _ _ (r .without .ensures) (n .two-bytes .ensures) (b .first .ensures .0) (w .without2 .ensures) (f .first2 .ensures .0) in
     long-enough 131072 (playText (s .args .input .now)) (s .args .out .now) (r .before .if1 .left) (omega (arith, put .1, f .first2 .ensures)) (rw read at (put .0))
 
 pub play-spec : {M : Type 1} → statement M
@@ -51,7 +51,7 @@ play-spec =
     (tie.spec
     returns
     without-requires
-    book-length-requires
+    two-bytes-requires
     first-requires
     without-requires-2
     first-requires-2
