@@ -1,2 +1,2 @@
 -- The definitions that the contracts of `cases` cite.
-pub mod Hex
+pub mod CaseText

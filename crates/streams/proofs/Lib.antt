@@ -1,2 +1,2 @@
 -- Laws that belong to no one function.
-pub mod Reading
+pub mod Pieces

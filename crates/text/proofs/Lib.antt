@@ -1,5 +1,4 @@
 -- Laws that belong to no one function.
-pub mod Putting
+pub mod Puts
 pub mod Each
 pub mod Room
-pub mod Built

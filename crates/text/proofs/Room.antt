@@ -16,9 +16,9 @@ front {before} {text} p fits =
     p .stored ∙ sets-eq text before 0 (omega arith) ∙ rw e
 
 module _ (room : ℕ) (text out : List ℕ) where
-  pub too-short : length out < room → (0 ≡ lengthWithin room text out) × (out ≡ writtenWithin room text out)
-  too-short l = rw (lt-leb room (length out) l) (refl, refl)
+  pub too-short : length out < room → (0 ≡ lengthWithin room text out) × ((out ≡ writtenWithin room text out) × (0 ≤ length out))
+  too-short l = rw (lt-leb room (length out) l) (refl, (refl, omega arith))
 
   pub long-enough : {after : List ℕ} {r : ℕ} → room ≤ length out → r ≤ room → Put out 0 text after r
-      → (r ≡ lengthWithin room text out) × (after ≡ writtenWithin room text out)
-  long-enough l m p = rw (le-leb room (length out) l) (omega (arith, p .ends), front p (omega arith))
+      → (r ≡ lengthWithin room text out) × ((after ≡ writtenWithin room text out) × (r ≤ length out))
+  long-enough l m p = rw (le-leb room (length out) l) (omega (arith, p .ends), (front p (omega arith), omega arith))

@@ -2,4 +2,3 @@
 pub mod Put
 pub mod Each
 pub mod Room
-pub mod Built

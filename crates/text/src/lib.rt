@@ -1,12 +1,22 @@
-// Writers of text. Each puts its text into a buffer from a place on, leaves every other byte as it was, and gives the place after the text.
+// Writers of text: each puts its text into a buffer from a place on, leaves every other byte unchanged, and returns the place after the text. And parts of an input.
 ghost use mathlib.Core.Path.{_≡_};
 ghost use mathlib.Core.List.{[], _∷_, _++_};
-ghost use Prim.Native.Nat.{_+_, _*_, _≤_};
-ghost use lib.ListN.{length};
-ghost use Rattle.definitions.specs.Decimal.{digit as digitOf, decimal};
-ghost use Rattle.definitions.specs.Shelf.{blank, codesText, line};
+ghost use Prim.Native.Nat.{_+_, _*_, _/_, _≤_, _<_};
+ghost use lib.ListN.{length, take};
+ghost use Rattle.definitions.specs.Bytes.{byte, twoBytes};
+ghost use Rattle.definitions.specs.Decimal.{digit, decimal};
+ghost use Rattle.definitions.specs.Shelf.{blank, newline, codesText};
 ghost use Rattle.text.specs.Put.{Put};
 use automaton::wide;
+
+// One byte.
+pub fn put_byte(out: &mut [u8], at: usize, byte: u8) -> usize
+    requires { ⌜ at < length (now out) ⌝ }
+    ensures { λ r. ⌜ Put (now (out .entry)) at (byte ∷ []) (now (out .exit)) r ⌝ }
+{
+    out[at] = byte;
+    at + 1
+}
 
 // Bytes as they are.
 pub fn put(out: &mut [u8], at: usize, bytes: &[u8]) -> usize
@@ -22,10 +32,20 @@ pub fn put(out: &mut [u8], at: usize, bytes: &[u8]) -> usize
 }
 
 // The last decimal digit of a number.
-fn digit(n: usize) -> u8
-    ensures { λ r. ⌜ r ≡ digitOf n ⌝ }
+fn put_digit(out: &mut [u8], at: usize, n: usize) -> usize
+    requires { ⌜ at < length (now out) ⌝ }
+    ensures { λ r. ⌜ Put (now (out .entry)) at (digit n ∷ []) (now (out .exit)) r ⌝ }
 {
-    (48 + n % 10) as u8
+    put_byte(out, at, (48 + n % 10) as u8)
+}
+
+// The last two.
+fn put_two_digits(out: &mut [u8], at: usize, n: usize) -> usize
+    requires { ⌜ at + 2 ≤ length (now out) ⌝ }
+    ensures { λ r. ⌜ Put (now (out .entry)) at (digit (n / 10) ∷ digit n ∷ []) (now (out .exit)) r ⌝ }
+{
+    let next = put_digit(out, at, n / 10);
+    put_digit(out, next, n)
 }
 
 // A number below 1,000 in decimal digits; of a greater one its last three.
@@ -35,21 +55,26 @@ pub fn put_decimal(out: &mut [u8], at: usize, n: usize) -> usize
     ensures { λ r. ⌜ r ≤ at + 3 ⌝ }
 {
     if n < 10 {
-        out[at] = digit(n);
-        return at + 1;
+        return put_digit(out, at, n);
     }
     if n < 100 {
-        out[at] = digit(n / 10);
-        out[at + 1] = digit(n);
-        return at + 2;
+        return put_two_digits(out, at, n);
     }
-    out[at] = digit(n / 100);
-    out[at + 1] = digit(n / 10);
-    out[at + 2] = digit(n);
-    at + 3
+    let next = put_digit(out, at, n / 100);
+    put_two_digits(out, next, n)
 }
 
-// The codes of a history, each after a blank.
+// A code after a blank.
+fn put_code(out: &mut [u8], at: usize, code: u8) -> usize
+    requires { ⌜ at + 4 ≤ length (now out) ⌝ }
+    ensures { λ r. ⌜ Put (now (out .entry)) at (blank ∷ decimal code) (now (out .exit)) r ⌝ }
+    ensures { λ r. ⌜ r ≤ at + 4 ⌝ }
+{
+    let next = put_byte(out, at, b' ');
+    put_decimal(out, next, wide(code))
+}
+
+// The codes of a history.
 pub fn put_codes(out: &mut [u8], at: usize, codes: &[u8]) -> usize
     requires { ⌜ at + 4 * length (now codes) ≤ length (now out) ⌝ }
     ensures { λ r. ⌜ Put (now (out .entry)) at (codesText (now (codes .entry))) (now (out .exit)) r ⌝ }
@@ -58,32 +83,45 @@ pub fn put_codes(out: &mut [u8], at: usize, codes: &[u8]) -> usize
     let mut next = at;
     let mut i = 0;
     while i < codes.len() {
-        out[next] = b' ';
-        next = put_decimal(out, next + 1, wide(codes[i]));
+        next = put_code(out, next, codes[i]);
         i += 1;
     }
     next
 }
 
-// The beginning of a line: its word and a blank.
-pub fn put_word(out: &mut [u8], at: usize, word: &[u8]) -> usize
-    requires { ⌜ at + length (now word) + 1 ≤ length (now out) ⌝ }
-    ensures { λ r. ⌜ Put (now (out .entry)) at (now (word .entry) ++ (blank ∷ [])) (now (out .exit)) r ⌝ }
-    ensures { λ r. ⌜ r ≤ at + length (now (word .entry)) + 1 ⌝ }
+// A line of a word, which ends in a blank, and a number.
+pub fn put_number_line(out: &mut [u8], at: usize, word: &[u8], n: usize) -> usize
+    requires { ⌜ at + length (now word) + 4 ≤ length (now out) ⌝ }
+    ensures { λ r. ⌜ Put (now (out .entry)) at (now (word .entry) ++ decimal n ++ (newline ∷ [])) (now (out .exit)) r ⌝ }
+    ensures { λ r. ⌜ r ≤ at + length (now (word .entry)) + 4 ⌝ }
 {
     let next = put(out, at, word);
-    out[next] = b' ';
-    next + 1
+    let end = put_decimal(out, next, n);
+    put_byte(out, end, b'\n')
 }
 
-// A line of a word and a number.
-pub fn put_number_line(out: &mut [u8], at: usize, word: &[u8], n: usize) -> usize
-    requires { ⌜ at + length (now word) + 5 ≤ length (now out) ⌝ }
-    ensures { λ r. ⌜ Put (now (out .entry)) at (line (now (word .entry)) (decimal n)) (now (out .exit)) r ⌝ }
-    ensures { λ r. ⌜ r ≤ at + length (now (word .entry)) + 5 ⌝ }
+// ---- parts of an input
+// The first n bytes, or all where there are fewer.
+pub fn first(s: &[u8], n: usize) -> &[u8]
+    ensures { λ r. ⌜ now r ≡ take n (now (s .entry)) ⌝ }
+    ensures { λ r. ⌜ (length (now r) ≤ n) × (length (now r) ≤ length (now (s .entry))) ⌝ }
 {
-    let next = put_word(out, at, word);
-    let end = put_decimal(out, next, n);
-    out[end] = b'\n';
-    end + 1
+    if n < s.len() {
+        return &s[..n];
+    }
+    s
+}
+
+// A byte, 0 after the end.
+fn byte_at(s: &[u8], i: usize) -> usize
+    ensures { λ r. ⌜ (r ≡ byte (now (s .entry)) i) × (r < 256) ⌝ }
+{
+    if i < s.len() { wide(s[i]) } else { 0 }
+}
+
+// The number in the first two bytes, the high byte first.
+pub fn two_bytes(s: &[u8]) -> usize
+    ensures { λ r. ⌜ r ≡ twoBytes (now (s .entry)) 0 ⌝ }
+{
+    byte_at(s, 0) * 256 + byte_at(s, 1)
 }

@@ -2,7 +2,7 @@
 use native.Mathlib.Omega.{arith}
 use mir.Syntax.{w64}
 use mir.Val.{toZ, ofZ}
-use Rattle.streams.proofs.Reading.{came}
+use Rattle.streams.proofs.Pieces.{came}
 use borrow.Author.Needs.{needs}
 use Rattle.streams.proofs.read_by.Statement.{statement}
 use Rattle.streams.proofs.read_by.Tie as tie

@@ -2,13 +2,13 @@
 use Prim.Native.Nat.{_-_}
 use native.Mathlib.Omega.{arith}
 use lib.ListN.{length}
-use Rattle.streams.proofs.Reading.{Begun, begun, then, ended, done}
+use Rattle.streams.proofs.Pieces.{BytesCame, begun, then, ended, done}
 use borrow.Author.Needs.{needs}
 use Rattle.streams.proofs.read_input.Statement.{statement}
 use Rattle.streams.proofs.read_input.Tie as tie
 
 abbrev Inv-loop : tie.InvT-loop
-Inv-loop buffer₀ length₀ buffer n = Begun n buffer₀ buffer
+Inv-loop buffer₀ length₀ buffer n = BytesCame n buffer₀ buffer
 
 abbrev μ-loop : tie.MeasureT-loop
 μ-loop buffer₀ length₀ buffer n = length buffer - n

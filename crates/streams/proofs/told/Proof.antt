@@ -5,7 +5,7 @@ use lib.Signed.{ltZ}
 use mir.Syntax.{w64}
 use mir.Val.{toZ, ofZ}
 use mir.ValLaws.{toZ-ofZ}
-use Rattle.streams.proofs.Reading.{below-zero, from-zero}
+use Rattle.streams.proofs.Pieces.{below-zero, from-zero}
 use Rattle.streams.proofs.told.Statement.{statement}
 use Rattle.streams.proofs.told.Tie as tie
 

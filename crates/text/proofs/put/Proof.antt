@@ -4,7 +4,7 @@ use Prim.Native.Nat.{_+_, _-_, _≤_}
 use native.Mathlib.Omega.{arith}
 use lib.ListN.{length, take, length-set}
 use Rattle.text.specs.Put.{Put}
-use Rattle.text.proofs.Putting.{put-turn, put-done}
+use Rattle.text.proofs.Puts.{put-turn, put-done}
 use borrow.Author.Needs.{needs}
 use Rattle.text.proofs.put.Statement.{statement}
 use Rattle.text.proofs.put.Tie as tie

@@ -1,0 +1,30 @@
+-- `put_request` meets its contract: the request, a blank and the history.
+use mathlib.Core.List.{[], _∷_}
+use native.Mathlib.Omega.{arith}
+use Rattle.definitions.specs.Shelf.{blank, newline, historyText}
+use Rattle.text.proofs.Puts.{then, then-both}
+use borrow.Author.Needs.{needs}
+use Rattle.booktext.proofs.findings.put_request.Statement.{statement}
+use Rattle.booktext.proofs.findings.put_request.Tie as tie
+
+put-decimal-requires : tie.Need-put-decimal-requires
+put-decimal-requires c κs = search needs
+
+put-byte-requires : tie.Need-put-byte-requires
+put-byte-requires c κs = search needs
+
+put-history-requires : tie.Need-put-history-requires
+put-history-requires c κs = search needs
+
+same-length : tie.Need-same-length
+same-length c = search needs
+
+returns : tie.Need-returns
+returns c =
+    let s = c .before .before .before .before .before .before .before .before .before .before .before .before .before .before in
+    (then-both (blank ∷ historyText (s .args .history .now)) (newline ∷ []) (c .before .before .before .before .before .before .before .before .before .before .put-decimal .ensures .0) (then (c .before .before .before .before .before .before .put-byte .ensures) (c .before .before .put-history .ensures .0)), omega arith)
+
+pub put-request-spec : {M : Type 1} → statement M
+put-request-spec =
+    tie.close
+    (tie.spec put-decimal-requires put-byte-requires put-history-requires same-length returns)

@@ -1,0 +1,5 @@
+-- Laws that belong to no one function.
+pub mod StateLines
+pub mod StepLines
+pub mod BookAndSteps
+pub mod Shown

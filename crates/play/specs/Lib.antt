@@ -1,0 +1,3 @@
+-- The definitions that the contracts of `play` cite.
+pub mod StateLines
+pub mod Play

@@ -1,5 +1,0 @@
--- Laws that belong to no one function.
-pub mod Answers
-pub mod Histories
-pub mod Inputs
-pub mod Turns

@@ -1,3 +1,0 @@
--- The definitions that the contracts of `playtext` cite.
-pub mod Lines
-pub mod Play

@@ -1,2 +1,0 @@
--- The definitions that the contracts of `shelftext` cite.
-pub mod Texts
