@@ -4,7 +4,7 @@ ghost use Prim.Native.Nat.{_≤_};
 ghost use lib.ListN.{length};
 ghost use Rattle.definitions.specs.Refusal.{bookRefusal};
 ghost use Rattle.definitions.specs.Shelf.{bookText, policyText, shelfText};
-ghost use Rattle.build.specs.Built.{builtAnswer};
+ghost use Rattle.build.specs.BuiltAnswer.{builtAnswer};
 ghost use Rattle.text.specs.Put.{Put};
 ghost use Rattle.text.specs.Built.{builtText, BuiltPasses};
 ghost use Rattle.text.specs.Room.{lengthWithin, writtenWithin};
