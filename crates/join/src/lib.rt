@@ -11,6 +11,7 @@ ghost use Rattle.definitions.specs.Answer.{written};
 ghost use Rattle.definitions.specs.Bytes.{byte};
 ghost use Rattle.definitions.specs.Book.{bookBytes};
 ghost use Rattle.definitions.specs.Rows.{rowsIn, lookedUp, laid, TableIn, EntriesBelow};
+ghost use Rattle.refine.specs.Rounds.{oneClass};
 ghost use Rattle.join.specs.Numbers.{NamesFirst, firstStates, classNumbers, StatesBelow, numberedRows, bookHeader};
 use automaton::wide;
 
@@ -86,7 +87,8 @@ fn write_header(book: &mut [u8], frame: &[u8], n: usize)
     book[11] = n as u8;
 }
 
-// The same as `write_joined` for the table of as many rows as `numbers` and `order` have places after the first. They are room to work in.
+// The same as `write_joined` for the table of as many rows as `numbers` and `order` have places after the first. They are room to work in; `numbers` has the
+// states in one class, as before the first round.
 fn write_joined_in(
     book: &mut [u8],
     frame: &[u8],
@@ -96,7 +98,7 @@ fn write_joined_in(
     order: &mut [u8],
 ) -> usize
     requires { ⌜ TableIn (now raw) (length (now numbers) - 1) w × Ordered (tabled w (rowsIn (now raw) (length (now numbers) - 1) w)) (length (now numbers) - 1) ⌝ }
-    requires { ⌜ (length (now numbers) ≤ 128) × (length (now order) ≡ length (now numbers)) ⌝ }
+    requires { ⌜ (now numbers ≡ oneClass (length (now numbers))) × (length (now numbers) ≤ 128) × (length (now order) ≡ length (now numbers)) ⌝ }
     requires { ⌜ (12 + (length (now numbers) - 1) * w ≤ length (now book)) × (length (now frame) ≡ 6) ⌝ }
     ensures { λ r. ⌜ r ≡ length (bookBytes (now (frame .entry)) (minimal w (rowsIn (now (raw .entry)) (length (now (numbers .entry)) - 1) w))) ⌝ }
     ensures { λ _. ⌜ now (book .exit)
@@ -117,7 +119,8 @@ pub fn write_joined(book: &mut [u8], frame: &[u8], raw: &[u8], n: usize, w: usiz
     ensures { λ r. ⌜ r ≡ length (bookBytes (now (frame .entry)) (minimal w (rowsIn (now (raw .entry)) n w))) ⌝ }
     ensures { λ _. ⌜ now (book .exit) ≡ written (bookBytes (now (frame .entry)) (minimal w (rowsIn (now (raw .entry)) n w))) (now (book .entry)) ⌝ }
 {
-    let mut numbers = [0u8; 128];
+    let mut numbers = [1u8; 128];
+    numbers[0] = 0;
     let mut order = [0u8; 128];
     let size = n + 1;
     write_joined_in(

@@ -20,7 +20,7 @@ joined-here : (c : tie.After-number)
 joined-here c =
     let p = c .before .before .before .before .before .before .before .before .before .before .before .before .before .before .before in
     let r = c .before .before .before .before .before .before .before in
-    joined (p .pre .0 .0) (size r) (r .refine-all .ensures .0) (c .number .last .1 .0) (p .pre .0 .1) (c .number .ensures .0) (c .number .ensures .1)
+    joined (p .pre .0 .0) (size r) (r .refine-all .ensures) (c .number .last .1 .0) (p .pre .0 .1) (c .number .ensures .0) (c .number .ensures .1)
 
 -- the book has room for its bytes
 room : (c : tie.After-number) → 12 + c .number .result * c .before .before .before .before .before .before .before .before .before .before .before .before .before .before .before .args .w ≤ length (c .before .before .before .before .before .before .before .before .before .before .before .before .before .before .before .args .book .now)
@@ -33,7 +33,7 @@ number-requires : tie.Need-number-requires
 number-requires c κs =
     let p = c .before .before .before .before .before .before .before .before .before .before .before .before .before .before in
     let r = c .before .before .before .before .before .before in
-    (names-first (p .pre .0 .0) (size r) (r .refine-all .ensures .0), omega (arith, size r, p .pre), omega (arith, r .refine-all .kept, p .pre))
+    (names-first (p .pre .0 .0) (size r) (r .refine-all .ensures), omega (arith, size r, p .pre), omega (arith, r .refine-all .kept, p .pre))
 
 write-header-requires : tie.Need-write-header-requires
 write-header-requires c κs =

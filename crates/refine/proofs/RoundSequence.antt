@@ -1,4 +1,4 @@
--- Rounds of refinement until one changes nothing: each round before divides a class, and then the classes are those of alike states.
+-- Round after round, until one changes nothing: each round before divides a class, and then the classes are those of alike states.
 use mathlib.Core.Path.{_≡_, refl, sym, ap, _∙_}
 use mathlib.Core.List.{List, [], _∷_, _++_, map, append-nil}
 use Prim.Native.Nat.{ℕ, zero, suc, _-_, _<_, _≤_}
@@ -19,29 +19,19 @@ use Rattle.definitions.proofs.TableBytes.{rows-count}
 use Rattle.refine.proofs.Rounds.{is-table, next-is, next-length}
 
 -- ---- before the first round
-pub one-class-length : (k : ℕ) → 1 ≤ k → length (oneClass k) ≡ k
-one-class-length k l = omega (arith, length-replicate {A = ℕ} (k - 1) 1)
-
-pub one-class-at : (k s : ℕ) → 1 ≤ s → s < k → 1 ≡ getD (oneClass k) s 0
-one-class-at k zero p l = absurd (omega arith)
-one-class-at k (suc s) p l = sym (getD-replicate (k - 1) s 1 0 (omega arith))
-
 map-together : (rows : List (List ℕ)) → map together rows ≡ replicate (length rows) 1
 map-together [] = refl
 map-together (row ∷ rows) = ap (λ (l : List ℕ). 1 ∷ l) (map-together rows)
 
-pub settling-begun : {raw : List ℕ} {w : ℕ} (old array : List ℕ) → TableIn raw (length old - 1) w → length old ≤ 128 → array ≡ oneClass (length old)
+pub rounds-begun : {raw : List ℕ} {w : ℕ} {array : List ℕ} → TableIn raw (length array - 1) w → length array ≤ 128 → array ≡ oneClass (length array)
     → InRounds raw w array
-settling-begun {raw} {w} old array ok few e =
-    let long : length array ≡ length old = ap length e ∙ one-class-length (length old) (omega (arith, ok .some)) in
-    let table : TableIn raw (length array - 1) w = rw long ok in
-    record {
-      few = omega arith;
-      table = table;
-      rounds = 0;
-      are = e ∙ ap (λ (l : List ℕ). 0 ∷ l)
-          (ap (λ (n : ℕ). replicate n 1) (ap (λ (n : ℕ). n - 1) (sym long) ∙ sym (rows-count raw (length array - 1) w table)) ∙ sym (map-together (rowsWith raw w array)));
-    }
+rounds-begun {raw} {w} {array} ok few e = record {
+  few = few;
+  table = ok;
+  rounds = 0;
+  are = e ∙ ap (λ (l : List ℕ). 0 ∷ l)
+      (ap (λ (n : ℕ). replicate n 1) (sym (rows-count raw (length array - 1) w ok)) ∙ sym (map-together (rowsWith raw w array)));
+}
 
 -- ---- one round more
 -- how many states name their class
@@ -62,8 +52,8 @@ module _ {raw : List ℕ} {w : ℕ} {array : List ℕ} (now : InRounds raw w arr
     long : length next ≡ length array
     long = ap length e ∙ next-length now
 
-    pub settling-turn : InRounds raw w next
-    settling-turn = record {
+    pub round-more : InRounds raw w next
+    round-more = record {
       few = omega (arith, long, now .few);
       table = rw long (now .table);
       rounds = suc (now .rounds);
@@ -74,8 +64,8 @@ module _ {raw : List ℕ} {w : ℕ} {array : List ℕ} (now : InRounds raw w arr
     rows-same = ap (λ (k : ℕ). rowsIn raw (k - 1) w) long
 
     -- a round that changes something divides a class
-    pub settling-less : (array ≡ next → ⊥) → length next - ownClasses next < length array - ownClasses array
-    settling-less differ = go (decLt (classCount rows (now .rounds)) (classCount rows (suc (now .rounds))))
+    pub round-less : (array ≡ next → ⊥) → length next - ownClasses next < length array - ownClasses array
+    round-less differ = go (decLt (classCount rows (now .rounds)) (classCount rows (suc (now .rounds))))
       where
         more : ownClasses next ≡ classCount rows (suc (now .rounds))
         more =
@@ -91,8 +81,8 @@ module _ {raw : List ℕ} {w : ℕ} {array : List ℕ} (now : InRounds raw w arr
             absurd (differ equal)
 
     -- a round that changes nothing is the last
-    pub settling-done : (old : List ℕ) → length array ≡ length old → array ≡ next → next ≡ lastRound raw w old
-    settling-done old same-length equal =
+    pub round-last : (old : List ℕ) → length array ≡ length old → array ≡ next → next ≡ lastRound raw w old
+    round-last old same-length equal =
         let still : refine rows (classesAfter rows (now .rounds)) ≡ classesAfter rows (now .rounds) =
         ap (λ (l : List ℕ). drop 1 l) (sym (e ∙ next-is now) ∙ sym equal ∙ now .are) in
         let last : array ≡ lastRound raw w array = now .are ∙ ap (λ (l : List ℕ). 0 ∷ l) (sym (classes-settled w rows (is-table now) (now .rounds) still)) in

@@ -1,20 +1,20 @@
--- States that a round leaves in their class: neither they nor the first state of their class lead to a state that the round before moved.
+-- States that keep their class in a round: neither they nor the first state of their class lead to a state that the round before moved.
 use mathlib.Core.Path.{_≡_, sym, ap, _∙_}
 use mathlib.Core.Bool.{false, true≢false}
 use mathlib.Core.List.{List}
-use Prim.Native.Nat.{ℕ, _-_, _*_, _/_, _<_, _≤_}
+use Prim.Native.Nat.{ℕ, zero, suc, _-_, _*_, _/_, _<_, _≤_}
 use native.Mathlib.Omega.{arith}
 use lib.Bits.{bitAnd, bitOr}
 use lib.ListN.{length, drop}
-use Rattle.automaton.proofs.Counting.{length-list-below, getD-list-below}
+use Rattle.definitions.proofs.Sets.{Has}
 use Rattle.definitions.specs.Bytes.{byte, bit}
 use Rattle.definitions.specs.Rows.{lookedUp}
 use Rattle.definitions.proofs.TableBytes.{row-fits, state-entries}
-use Rattle.refine.specs.Rounds.{InRounds, Stays, nextRound}
-use Rattle.refine.specs.Words.{allStates, rowWord, rowWords, movedStates}
+use Rattle.refine.specs.Rounds.{InRounds, KeptClasses, nextRound}
+use Rattle.refine.specs.StateWords.{allStates, RowWords, movedStates}
 use Rattle.refine.proofs.StateWords.{first-misses, second-misses, leads-has, all-have, unmoved}
 use Rattle.refine.proofs.Rounds.{entries-equal, rows-equal, class-bounds, keeps-class, class-row, next-length}
-use Rattle.refine.proofs.Settling.{settling-turn}
+use Rattle.refine.proofs.RoundSequence.{round-more}
 
 -- entry c of the row of state s
 abbrev entry : List ℕ → ℕ → ℕ → ℕ → ℕ
@@ -26,44 +26,45 @@ SameEntries raw w classes moved =
     (s c : ℕ) → 1 ≤ s → s < length classes → c < w → bit moved (entry raw w s c / 2) ≡ false → bit moved (entry raw w (byte classes s) c / 2) ≡ false
     → byte classes (entry raw w (byte classes s) c) ≡ byte classes (entry raw w s c)
 
-module _ {raw : List ℕ} {w : ℕ} {classes leads : List ℕ} (now : InRounds raw w classes) (words : leads ≡ rowWords raw (length classes - 1) w) (moved : ℕ) where
+module _ {raw : List ℕ} {w : ℕ} {classes : List ℕ} (leads : List ℕ) (now : InRounds raw w classes) (fits : length classes ≤ length leads) (words : RowWords raw w (length classes - 1) leads) (moved : ℕ) where
   abbrev n : ℕ
   n = length classes - 1
 
-  word-at : (i : ℕ) → i < n → byte leads i ≡ rowWord raw w i
-  word-at i l = ap (λ (x : List ℕ). byte x i) words ∙ getD-list-below (rowWord raw w) n i 0 l
+  -- the word of a state has where its row leads
+  leads-there : (s c : ℕ) → 1 ≤ s → s ≤ n → c < w → Has (byte leads s) (entry raw w s c / 2)
+  leads-there zero c p l k = absurd (omega arith)
+  leads-there (suc i) c p l k =
+      let e : suc i - 1 ≡ i = omega arith in
+      rw (words i l, e) (leads-has (drop (i * w) raw) w c k)
 
-  stays-by : SameEntries raw w classes moved → Stays raw w leads moved classes
-  stays-by same = record { words = ap length words ∙ length-list-below (rowWord raw w) n; stays = stays }
+  kept-by : SameEntries raw w classes moved → KeptClasses raw w leads moved classes
+  kept-by same = record { words = fits; kept = kept }
     where
-      stays : (s : ℕ) → 1 ≤ s → s < length classes → bitAnd (bitOr (byte leads (s - 1)) (byte leads (byte classes s - 1))) moved ≡ 0
+      kept : (s : ℕ) → 1 ≤ s → s < length classes → bitAnd (bitOr (byte leads s) (byte leads (byte classes s))) moved ≡ 0
           → byte (nextRound raw w classes) s ≡ byte classes s
-      stays s p l z =
+      kept s p l z =
           let b = class-bounds now s p l in
-          let one : s - 1 < n = omega arith in
-          let other : byte classes s - 1 < n = omega arith in
-          let misses : (c : ℕ) → c < w → bit moved (entry raw w s c / 2) ≡ false =
-          λ c k. first-misses (byte leads (s - 1)) (byte leads (byte classes s - 1)) moved (entry raw w s c / 2) z (rw (word-at (s - 1) one) (leads-has (drop ((s - 1) * w) raw) w c k)) in
-          let class-misses : (c : ℕ) → c < w → bit moved (entry raw w (byte classes s) c / 2) ≡ false =
-          λ c k. second-misses (byte leads (s - 1)) (byte leads (byte classes s - 1)) moved (entry raw w (byte classes s) c / 2) z
-          (rw (word-at (byte classes s - 1) other) (leads-has (drop ((byte classes s - 1) * w) raw) w c k)) in
+          let first = byte classes s in
           keeps-class now s p l
-          (rows-equal (byte classes) (drop ((byte classes s - 1) * w) raw) (drop ((s - 1) * w) raw) w (row-fits raw n w (now .table) (byte classes s - 1) other)
-          (row-fits raw n w (now .table) (s - 1) one) (λ c k. same s c p l k (misses c k) (class-misses c k)))
+          (rows-equal (byte classes) (drop ((first - 1) * w) raw) (drop ((s - 1) * w) raw) w (row-fits raw n w (now .table) (first - 1) (omega arith))
+          (row-fits raw n w (now .table) (s - 1) (omega arith))
+          (λ c k. same s c p l k
+          (first-misses (byte leads s) (byte leads first) moved (entry raw w s c / 2) z (leads-there s c p (omega arith) k))
+          (second-misses (byte leads s) (byte leads first) moved (entry raw w first c / 2) z (leads-there first c (b .0) (omega arith) k))))
 
 -- ---- before the first round every state is taken for moved
-module _ {raw : List ℕ} {w : ℕ} {classes leads : List ℕ} (now : InRounds raw w classes) (words : leads ≡ rowWords raw (length classes - 1) w) where
-  pub staying-begun : Stays raw w leads allStates classes
-  staying-begun = stays-by now words allStates same
+module _ {raw : List ℕ} {w : ℕ} {classes : List ℕ} (leads : List ℕ) (now : InRounds raw w classes) (fits : length classes ≤ length leads) (words : RowWords raw w (length classes - 1) leads) where
+  pub kept-begun : KeptClasses raw w leads allStates classes
+  kept-begun = kept-by leads now fits words allStates same
     where
       same : SameEntries raw w classes allStates
       same s c p l k misses other =
           let low = state-entries (now .table) s p (omega arith) 128 (omega (arith, now .few)) c k in
           absurd (true≢false (sym (all-have (entry raw w s c / 2) (omega arith)) ∙ misses))
 
-  -- a round moves some states, and the next one leaves in their class those that do not lead there
-  pub staying-turn : {next : List ℕ} → next ≡ nextRound raw w classes → Stays raw w leads (movedStates classes next) next
-  staying-turn {next} e = stays-by (settling-turn now e) (words ∙ ap (λ (k : ℕ). rowWords raw (k - 1) w) (sym long)) (movedStates classes next) same
+  -- a round moves some states, and in the next one those that do not lead there keep their class
+  pub kept-turn : {next : List ℕ} → next ≡ nextRound raw w classes → KeptClasses raw w leads (movedStates classes next) next
+  kept-turn {next} e = kept-by leads (round-more now e) (rw long fits) (rw long words) (movedStates classes next) same
     where
       long : length next ≡ length classes
       long = ap length e ∙ next-length now
@@ -73,7 +74,7 @@ module _ {raw : List ℕ} {w : ℕ} {classes leads : List ℕ} (now : InRounds r
 
       same : SameEntries raw w next (movedStates classes next)
       same s c p l k misses other =
-          let b = class-bounds (settling-turn now e) s p l in
+          let b = class-bounds (round-more now e) s p l in
           let m : s < length classes = omega (arith, long) in
           let low = state-entries (now .table) s p (omega arith) (length classes) (omega arith) c k in
           let low-class = state-entries (now .table) (byte next s) (b .0) (omega arith) (length classes) (omega arith) c k in

@@ -1,10 +1,11 @@
 -- Sets of states as words. States 2k and 2k + 1 share bit k: a word has room for 128 states, and may have a state that was not put in.
+use mathlib.Core.Path.{_≡_}
 use mathlib.Core.Bool.{cond, not}
 use mathlib.Core.List.{List}
-use Prim.Native.Nat.{ℕ, _*_, _/_}
+use Prim.Native.Nat.{ℕ, suc, _*_, _/_, _<_}
 use lib.Dec.{eqb}
 use lib.ListN.{length, drop}
-use Rattle.automaton.specs.Below.{foldBelow, listBelow}
+use Rattle.automaton.specs.Below.{foldBelow}
 use Rattle.definitions.specs.Bytes.{byte}
 use Rattle.definitions.specs.Situation.{emptySet, insert}
 
@@ -23,12 +24,13 @@ withEntry row c word = withState (byte row c) word
 abbrev pub leadsTo : List ℕ → ℕ → ℕ
 leadsTo row w = foldBelow w emptySet (withEntry row)
 
--- those of each of the n rows of a table
+-- that of row i of a table
 abbrev pub rowWord : List ℕ → ℕ → ℕ → ℕ
 rowWord raw w i = leadsTo (drop (i * w) raw) w
 
-abbrev pub rowWords : List ℕ → ℕ → ℕ → List ℕ
-rowWords raw n w = listBelow n (rowWord raw w)
+-- the array has that of each state s from 1 to n at place s
+abbrev pub RowWords : List ℕ → ℕ → ℕ → List ℕ → Type 0
+RowWords raw w n leads = (i : ℕ) → i < n → byte leads (suc i) ≡ rowWord raw w i
 
 -- the states whose class is not the same in two arrays
 abbrev pub withMoved : List ℕ → List ℕ → ℕ → ℕ → ℕ
