@@ -20,7 +20,7 @@ abbrev pub IsClass : List (List ℕ) → ℕ → Type 0
 IsClass rows a = (a ≤ length rows) × (classOf (classes rows) a ≡ a)
 
 -- a step leads to the class of the state that it leads to in the table
-joined-by-step : (cs : List ℕ) (w : ℕ) (rows : List (List ℕ)) (a c : ℕ) → step (joinedBy cs w rows) a c ≡ classOf cs (step (tabled w rows) a c)
+pub joined-by-step : (cs : List ℕ) (w : ℕ) (rows : List (List ℕ)) (a c : ℕ) → step (joinedBy cs w rows) a c ≡ classOf cs (step (tabled w rows) a c)
 joined-by-step cs w rows zero c = refl
 joined-by-step cs w rows (suc a) c = go (ltb c w)
   where
@@ -29,7 +29,7 @@ joined-by-step cs w rows (suc a) c = go (ltb c w)
     go false = refl
 
 module _ (w : ℕ) (rows : List (List ℕ)) (ok : IsTable w rows) where
-  class-is-class : (x : ℕ) → x ≤ length rows → IsClass rows (classOf (classes rows) x)
+  pub class-is-class : (x : ℕ) → x ≤ length rows → IsClass rows (classOf (classes rows) x)
   class-is-class x l =
       let named = classes-named w rows ok in
       (omega (arith, named .low x l), named .own x l)
@@ -42,7 +42,7 @@ module _ (w : ℕ) (rows : List (List ℕ)) (ok : IsTable w rows) where
   pub joined-after-class : (a : ℕ) (h : History) → IsClass rows a → IsClass rows (after (joined w rows) a h)
   joined-after-class a h p = after-keeps (joined w rows) (IsClass rows) joined-step-class a p h
 
-  joined-step : (x c : ℕ) → x ≤ length rows → classOf (classes rows) (step (tabled w rows) x c) ≡ step (joined w rows) (classOf (classes rows) x) c
+  pub joined-step : (x c : ℕ) → x ≤ length rows → classOf (classes rows) (step (tabled w rows) x c) ≡ step (joined w rows) (classOf (classes rows) x) c
   joined-step x c l =
       let M = tabled w rows in
       let first = classOf (classes rows) x in

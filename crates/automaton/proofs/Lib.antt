@@ -18,6 +18,7 @@ pub mod Joined
 pub mod Tidy
 pub mod Tables
 pub mod Minimal
+pub mod Ranks
 pub mod Parents
 pub mod Labels
 pub mod Separating

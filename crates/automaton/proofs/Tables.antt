@@ -12,6 +12,7 @@ use Rattle.automaton.specs.Below.{listBelow}
 use Rattle.automaton.specs.History.{History, Earlier, NotLater, Earliest}
 use Rattle.automaton.specs.Machine.{Machine, step, after, isState, possibleFrom, SameHistories, Alike}
 use Rattle.automaton.specs.Explore.{Reached, numberIn, unreached, reached}
+use Rattle.automaton.specs.Ordered.{Before, Ordered}
 use Rattle.automaton.specs.Table.{rowOf, rowAt, table, entryIn, tabled}
 use Rattle.automaton.proofs.Order.{tri, earlier-irrefl, earlier-trans, earlier-tri, earlier-index, earlier-append, earlier-code, earlier-not-later}
 use Rattle.automaton.proofs.Numbered.{Numbered}
@@ -20,7 +21,7 @@ use Rattle.automaton.proofs.Counting.{length-list-below, getD-list-belo
 use Rattle.automaton.proofs.WellFormed.{Wide, IsTable, getD-map-within, entry-beyond, step-entry, step-inside, after-inside}
 use Rattle.automaton.proofs.Exploring.{stateAt, historyAt, number-hit, Sound, Follows, reached-sound}
 use Rattle.automaton.proofs.Earliest.{FoundBy, Explored, reached-explored, reached-closed}
-use Rattle.automaton.proofs.Tidy.{Before, Ordered, Tidy}
+use Rattle.automaton.proofs.Tidy.{Tidy}
 
 -- the earlier of two histories is earlier without the last codes, or differs in its smaller last code alone
 earlier-last : (h k : History) (d c : ℕ) → Earlier (h ++ (d ∷ [])) (k ++ (c ∷ [])) → Earlier h k ⊎ ((h ≡ k) × (d < c))

@@ -8,23 +8,13 @@ use native.Mathlib.Omega.{arith}
 use lib.ListN.{length, getD}
 use lib.Seq.{ext-getD}
 use Rattle.automaton.specs.Machine.{Machine, step, SameHistories, Alike}
+use Rattle.automaton.specs.Ordered.{Before, Ordered}
 use Rattle.automaton.specs.Table.{tabled}
 use Rattle.automaton.proofs.Order.{tri}
 use Rattle.automaton.proofs.Machines.{zeros-alike, alike-step}
 use Rattle.automaton.proofs.WellFormed.{IsTable, step-entry}
 
--- entry d of row p stands before entry c of row s
-abbrev pub Before : ℕ → ℕ → ℕ → ℕ → Type 0
-Before p d s c = (p < s) ⊎ ((p ≡ s) × (d < c))
-
--- The states are 1 to n, 1 is the start, and each above 1 stands in an earlier row than its own. Reading the rows in order, new numbers come in order.
-pub record Ordered (m : Machine) (n : ℕ) : Type 0 where
-  pub some : 1 ≤ n
-  pub inside : (s c : ℕ) → s ≤ n → step m s c ≤ n
-  pub met : (t : ℕ) → 1 < t → t ≤ n → (p : ℕ) × (d : ℕ) × (p < t) × (step m p d ≡ t)
-  pub inOrder : (s c t : ℕ) → s ≤ n → 1 < t → t < step m s c → (p : ℕ) × (d : ℕ) × Before p d s c × (step m p d ≡ t)
-
--- and alike states are equal
+-- the states are in order, and alike states are equal
 pub record Tidy (m : Machine) (n : ℕ) : Type 0 where
   pub ordered : Ordered m n
   pub distinct : (x y : ℕ) → x ≤ n → y ≤ n → Alike m x m y → x ≡ y

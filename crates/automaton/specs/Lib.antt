@@ -5,6 +5,8 @@ pub mod Explore
 pub mod Table
 pub mod Join
 pub mod Pair
+pub mod Ordered
+pub mod Ranks
 pub mod StateList
 pub mod Parents
 pub mod Labels

@@ -1,4 +1,5 @@
-pub mod Policies
-pub mod Books
-pub mod Finishing
-pub mod Building
+pub mod PolicySizes
+pub mod PolicyFrame
+pub mod PolicyMachine
+pub mod RawTable
+pub mod BuildAnswers

@@ -1,63 +1,82 @@
 // From a policy to its book: the situations that histories reach, alike ones joined, numbered by their earliest history, and written as bytes.
 ghost use mathlib.Core.Path.{_≡_};
-ghost use Prim.Native.Nat.{_+_, _*_, _≤_};
+ghost use Prim.Native.Nat.{_+_, _*_, _<_, _≤_};
 ghost use lib.ListN.{length};
 ghost use Rattle.automaton.specs.Join.{minimal};
+ghost use Rattle.automaton.specs.Ordered.{Ordered};
+ghost use Rattle.automaton.specs.Table.{tabled};
 ghost use Rattle.definitions.specs.Answer.{written};
+ghost use Rattle.definitions.specs.Bytes.{byte};
 ghost use Rattle.definitions.specs.Policy.{fields, width, frame};
 ghost use Rattle.definitions.specs.Book.{bookBytes};
 ghost use Rattle.definitions.specs.Refusal.{fileRefusal};
 ghost use Rattle.definitions.specs.Build.{buildAnswer, buildBuffer};
 ghost use Rattle.definitions.specs.Rows.{rowsIn, TableIn};
-ghost use Rattle.build.specs.Built.{builtAnswer};
+ghost use Rattle.build.specs.BuiltAnswer.{builtAnswer};
+use automaton::wide;
 use policy::shape::Shape;
 
-// The book of a policy whose situations have the `n` rows of `raw`: alike ones are joined, numbered and written. Gives the book's length. The bytes after
-// it stay.
-fn write_joined(book: &mut [u8], policy: &[u8], raw: &[u8], n: usize, w: usize) -> usize
-    requires { ⌜ TableIn (now raw) n w × (n ≤ 127) × (12 + n * w ≤ length (now book)) ⌝ }
-    requires { ⌜ (9 ≤ length (now policy)) × (9 + fields (now policy) ≤ length (now policy)) ⌝ }
-    ensures { λ r. ⌜ r ≡ length (bookBytes (frame (now (policy .entry))) (minimal w (rowsIn (now (raw .entry)) n w))) ⌝ }
-    ensures { λ r. ⌜ now (book .exit) ≡ written (bookBytes (frame (now (policy .entry))) (minimal w (rowsIn (now (raw .entry)) n w))) (now (book .entry)) ⌝ }
+// Byte `i` of the frame of a policy: the number of events, that of fields, the value count of a field, and 0 for an absent field.
+fn frame_byte(policy: &[u8], i: usize) -> u8
+    requires { ⌜ (9 ≤ length (now policy)) × (9 + fields (now policy) ≤ length (now policy)) × (i < 6) ⌝ }
+    ensures { λ r. ⌜ r ≡ byte (frame (now (policy .entry))) i ⌝ }
 {
-    let mut classes = [0u8; 128];
-    let mut next = [0u8; 128];
-    let mut order = [0u8; 128];
-    let mut numbers = [0u8; 128];
-    let size = n + 1;
-    refine::refine_all(raw, w, &mut classes[..size], &mut next[..size]);
-    let k = number::number(raw, w, &classes[..size], &mut order, &mut numbers[..size]);
-    write::write_book(book, policy, raw, w, &order[..k], &numbers[..size])
+    if i < 2 {
+        return policy[5 + i];
+    }
+    if i - 2 < wide(policy[6]) {
+        return policy[7 + i];
+    }
+    0
 }
 
-// What building gives: the number of the row that turns the call down, or the length of the book that was written.
+// The six bytes of the frame.
+fn fill_frame(policy: &[u8], six: &mut [u8])
+    requires { ⌜ (9 ≤ length (now policy)) × (9 + fields (now policy) ≤ length (now policy)) × (length (now six) ≡ 6) ⌝ }
+    ensures { λ _. ⌜ now (six .exit) ≡ frame (now (policy .entry)) ⌝ }
+{
+    let mut i = 0;
+    while i < 6 {
+        six[i] = frame_byte(policy, i);
+        i += 1;
+    }
+}
+
+// The book of a policy whose situations have the `n` rows of `raw`. Returns its length. The bytes after it are unchanged.
+fn write_book(book: &mut [u8], policy: &[u8], raw: &[u8], n: usize, w: usize) -> usize
+    requires { ⌜ TableIn (now raw) n w × (n ≤ 127) × Ordered (tabled w (rowsIn (now raw) n w)) n × (12 + n * w ≤ length (now book)) ⌝ }
+    requires { ⌜ (9 ≤ length (now policy)) × (9 + fields (now policy) ≤ length (now policy)) ⌝ }
+    ensures { λ r. ⌜ r ≡ length (bookBytes (frame (now (policy .entry))) (minimal w (rowsIn (now (raw .entry)) n w))) ⌝ }
+    ensures { λ _. ⌜ now (book .exit) ≡ written (bookBytes (frame (now (policy .entry))) (minimal w (rowsIn (now (raw .entry)) n w))) (now (book .entry)) ⌝ }
+{
+    let mut frame = [0u8; 6];
+    fill_frame(policy, &mut frame);
+    join::write_joined(book, &frame, raw, n, w)
+}
+
+// What building returns: the number of the row that refuses the call, or the length of the book that was written.
 pub enum Built {
     Refused(usize),
     Written(usize),
 }
 
-// The book of a policy that no row up to 10 turns down. Row 11, over 127 situations, leaves the buffer alone, and bytes after the book stay. The slices
-// after the first two are room to work in; nothing is said of what they hold afterwards.
-fn build_in(
-    policy: &[u8],
-    book: &mut [u8],
-    images: &mut [u64],
-    found: &mut [u64],
-    raw: &mut [u8],
-) -> Built
+// The book of a policy that no row up to 10 refuses. Row 11, over 127 situations, leaves the buffer unchanged, and so are the bytes after a book. `images` and
+// `raw` are room to work in; nothing is said of what they hold afterwards.
+fn build_in(policy: &[u8], book: &mut [u8], images: &mut [u64], raw: &mut [u8]) -> Built
     requires { ⌜ (fileRefusal (now policy) ≡ 0) × (17284 ≤ length (now book)) ⌝ }
-    requires { ⌜ (64 * width (now policy) ≤ length (now images)) × (128 ≤ length (now found)) × (127 * width (now policy) ≤ length (now raw)) ⌝ }
+    requires { ⌜ (64 * width (now policy) ≤ length (now images)) × (127 * width (now policy) ≤ length (now raw)) ⌝ }
     ensures { λ r. ⌜ builtAnswer r ≡ buildAnswer (now (policy .entry)) (now (book .entry)) ⌝ }
     ensures { λ r. ⌜ now (book .exit) ≡ buildBuffer (now (policy .entry)) (now (book .entry)) ⌝ }
 {
+    let mut found = [0u64; 128];
     let shape = Shape::of(policy);
     let w = shape.width;
     images::fill_images(policy, shape, images);
-    let n = explore::explore(images, shape.valuations, w, found, raw);
+    let n = explore::explore(images, shape.valuations, w, &mut found, raw);
     if n == 0 {
         return Built::Refused(11);
     }
-    Built::Written(write_joined(book, policy, raw, n, w))
+    Built::Written(write_book(book, policy, raw, n, w))
 }
 
 // The same, with room for every policy. The size of an array is a constant, so that each size has a function of its own.
@@ -67,9 +86,8 @@ fn build_wide(policy: &[u8], book: &mut [u8]) -> Built
     ensures { λ r. ⌜ now (book .exit) ≡ buildBuffer (now (policy .entry)) (now (book .entry)) ⌝ }
 {
     let mut images = [0u64; 8704];
-    let mut found = [0u64; 128];
     let mut raw = [0u8; 17272];
-    build_in(policy, book, &mut images, &mut found, &mut raw)
+    build_in(policy, book, &mut images, &mut raw)
 }
 
 // The same for a policy of at most 32 codes: smaller arrays are cleared faster.
@@ -79,24 +97,11 @@ fn build_narrow(policy: &[u8], book: &mut [u8]) -> Built
     ensures { λ r. ⌜ now (book .exit) ≡ buildBuffer (now (policy .entry)) (now (book .entry)) ⌝ }
 {
     let mut images = [0u64; 2048];
-    let mut found = [0u64; 128];
     let mut raw = [0u8; 4064];
-    build_in(policy, book, &mut images, &mut found, &mut raw)
+    build_in(policy, book, &mut images, &mut raw)
 }
 
-// The same, with as much room as the policy needs.
-fn build_passed(policy: &[u8], book: &mut [u8]) -> Built
-    requires { ⌜ (fileRefusal (now policy) ≡ 0) × (17284 ≤ length (now book)) ⌝ }
-    ensures { λ r. ⌜ builtAnswer r ≡ buildAnswer (now (policy .entry)) (now (book .entry)) ⌝ }
-    ensures { λ r. ⌜ now (book .exit) ≡ buildBuffer (now (policy .entry)) (now (book .entry)) ⌝ }
-{
-    if policy::counts::requests(policy) <= 12 {
-        return build_narrow(policy, book);
-    }
-    build_wide(policy, book)
-}
-
-// The book of a policy, in the first bytes of the buffer; the bytes after it stay. A refusal leaves the whole buffer as it was.
+// The book of a policy, in the first bytes of the buffer; the bytes after it are unchanged. A refusal leaves the whole buffer as it was.
 pub fn build(policy: &[u8], book: &mut [u8]) -> Built
     ensures { λ r. ⌜ builtAnswer r ≡ buildAnswer (now (policy .entry)) (now (book .entry)) ⌝ }
     ensures { λ r. ⌜ now (book .exit) ≡ buildBuffer (now (policy .entry)) (now (book .entry)) ⌝ }
@@ -108,5 +113,8 @@ pub fn build(policy: &[u8], book: &mut [u8]) -> Built
     if number != 0 {
         return Built::Refused(number);
     }
-    build_passed(policy, book)
+    if policy::counts::requests(policy) <= 12 {
+        return build_narrow(policy, book);
+    }
+    build_wide(policy, book)
 }

@@ -12,7 +12,7 @@ use Rattle.definitions.specs.Compare.{compareAnswer}
 use Rattle.definitions.proofs.Tests.{judge-zero}
 use Rattle.definitions.proofs.Answers.{answer-given}
 use Rattle.definitions.proofs.Written.{length-taken}
-use Rattle.build.specs.Built.{builtAnswer}
+use Rattle.build.specs.BuiltAnswer.{builtAnswer}
 use Rattle.build.specs.declared.Built.{Built}
 use Rattle.build.specs.declared.Built.the-variants as Built
 use Rattle.compare.specs.Answer.{comparedAnswer}

@@ -3,7 +3,7 @@ ghost use mathlib.Core.Path.{_≡_};
 ghost use mathlib.Core.List.{List};
 ghost use Prim.Native.Nat.{ℕ, _*_, _^_, _<_};
 ghost use lib.ListN.{length};
-ghost use Rattle.build.specs.Built.{builtAnswer};
+ghost use Rattle.build.specs.BuiltAnswer.{builtAnswer};
 ghost use Rattle.verdict.specs.VerdictAnswer.{foundOf, blockedOf, judgedAnswer};
 ghost use Rattle.verdict.specs.AnswerBounds.{BlockedWithin, FindingWithin, FindingsWithin, JudgedWithin};
 ghost use Rattle.compare.specs.Answer.{comparedAnswer};

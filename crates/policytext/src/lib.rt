@@ -2,7 +2,7 @@
 ghost use mathlib.Core.Path.{_≡_};
 ghost use Prim.Native.Nat.{_≤_};
 ghost use lib.ListN.{length};
-ghost use Rattle.build.specs.Built.{builtAnswer};
+ghost use Rattle.build.specs.BuiltAnswer.{builtAnswer};
 ghost use Rattle.text.specs.Put.{Put};
 ghost use Rattle.text.specs.Room.{lengthWithin, writtenWithin};
 ghost use Rattle.booktext.specs.Forms.{textOf, roomOf};

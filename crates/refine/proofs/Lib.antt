@@ -1,5 +1,5 @@
 pub mod StateWords
 pub mod Rounds
-pub mod Settling
-pub mod Staying
+pub mod RoundSequence
+pub mod KeptClasses
 pub mod Refinement

@@ -18,8 +18,8 @@ use Rattle.definitions.specs.Bytes.{byte}
 use Rattle.definitions.specs.Situation.{emptySet}
 use Rattle.definitions.specs.Rows.{rowIn, lookedUp}
 use Rattle.refine.specs.Classes.{rowsWith}
-use Rattle.refine.specs.Rounds.{InRounds, nextRound, isFirstAlike}
-use Rattle.refine.specs.Words.{withMoved}
+use Rattle.refine.specs.Rounds.{InRounds, nextRound, isFirst, isFirstAlike}
+use Rattle.refine.specs.StateWords.{withMoved}
 use Rattle.definitions.proofs.TableBytes.{row-is, rows-count, bytes-are-table, cons-at}
 use Rattle.automaton.proofs.Congruence.{map-same}
 
@@ -173,7 +173,7 @@ module _ {raw : List ℕ} {w : ℕ} {classes : List ℕ} (now : InRounds raw w c
     pub class-bounds : (1 ≤ byte classes s) × (byte classes s ≤ s)
     class-bounds = (search-begins .0, omega (arith, class-at s, old-named .low s (omega (arith, count))))
 
-    -- a state stays in its class if the first state of the class leads to the same classes
+    -- a state keeps its class if the first state of the class leads to the same classes
     pub keeps-class : lookedUp classes w (drop ((byte classes s - 1) * w) raw) ≡ lookedUp classes w (drop ((s - 1) * w) raw)
         → byte (nextRound raw w classes) s ≡ byte classes s
     keeps-class same =
@@ -191,9 +191,8 @@ module _ {raw : List ℕ} {w : ℕ} {classes : List ℕ} (now : InRounds raw w c
     module _ (next : List ℕ) (t : ℕ) (pt : 1 ≤ t) (b : t < s) (not-after : t ≤ byte (nextRound raw w classes) s) where
       pub search-found : isFirstAlike raw w classes next s t ≡ true → t ≡ byte (nextRound raw w classes) s
       search-found e =
-          let first = and-true (eqb (byte classes t) (byte classes s)) _ e in
-          let second = and-true (eqb (byte next t) t) _ (first .1) in
-          let class = same-class t pt (omega arith) (same-list-true _ _ (second .1)) in
+          let both = and-true (isFirst classes next s t) _ e in
+          let class = same-class t pt (omega arith) (same-list-true _ _ (both .1)) in
           omega (arith, named .low t (omega (arith, count)), new-class-at s)
 
       pub search-passed : take s next ≡ take s (nextRound raw w classes) → isFirstAlike raw w classes next s t ≡ false → t + 1 ≤ byte (nextRound raw w classes) s

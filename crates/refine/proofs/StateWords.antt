@@ -1,21 +1,22 @@
 -- Sets of states as words: what a word has, and which states it does not have.
 use mathlib.Core.Path.{_≡_, refl, sym, ap, _∙_}
 use mathlib.Core.Bool.{Bool, true, false, not, or-true, false≢true}
+use mathlib.Core.Logic.{_⊎_, inl, inr}
 use mathlib.Core.List.{List}
-use Prim.Native.Nat.{ℕ, zero, suc, _/_, _%_, _^_, _<_, min}
+use Prim.Native.Nat.{ℕ, zero, suc, _+_, _/_, _%_, _^_, _<_, min}
 use native.Mathlib.Nat.{zero-div}
 use native.Mathlib.Omega.{arith}
 use lib.Bits.{bitAnd, bitOr, and-shr, and-step}
 use lib.Dec.{eqb}
-use lib.ListN.{length}
-use lib.Seq.{ext-getD}
+use lib.ListN.{length, set}
+use lib.Seq.{ext-getD, getD-set-same, getD-set-other}
 use borrow.Author.Tests.{eqb-true, eq-eqb}
 use Rattle.automaton.specs.Below.{foldBelow}
-use Rattle.automaton.proofs.Counting.{all-below-at}
+use Rattle.automaton.proofs.Counting.{below-suc, all-below-at}
 use Rattle.definitions.specs.Bytes.{byte, bit}
 use Rattle.definitions.specs.Situation.{emptySet}
 use Rattle.definitions.proofs.Sets.{Has, bit-empty, bit-union, has-single, has-gathered}
-use Rattle.refine.specs.Words.{allStates, leadsTo, withMoved, movedStates}
+use Rattle.refine.specs.StateWords.{allStates, leadsTo, rowWord, RowWords, withMoved, movedStates}
 
 -- ---- two words that share no bit
 one-alone : (x y : ℕ) → x ≡ 1 → y < 2 → min x y ≡ 0 → eqb y 1 ≡ false
@@ -38,6 +39,17 @@ second-misses a b m u z h = no-common (bitOr a b) m u z (bit-union a b u ∙ rw 
 pub leads-has : (row : List ℕ) (w c : ℕ) → c < w → Has (leadsTo row w) (byte row c / 2)
 leads-has row w c l =
     has-gathered (λ k. true) (λ k. 2 ^ (byte row k / 2)) w (byte row c / 2) .1 (c, l, refl, has-single (byte row c / 2) (byte row c / 2) .1 refl)
+
+-- the words of the rows, one after another
+pub words-more : (raw : List ℕ) (w : ℕ) (leads : List ℕ) (i x : ℕ) → RowWords raw w i leads → i + 1 < length leads → x ≡ rowWord raw w i
+    → RowWords raw w (i + 1) (set leads (i + 1) x)
+words-more raw w leads i x old l e k b = go (below-suc k i (omega arith))
+  where
+    go : (k < i) ⊎ (k ≡ i) → byte (set leads (i + 1) x) (suc k) ≡ rowWord raw w k
+    go (inl m) = getD-set-other leads (i + 1) (suc k) x 0 (omega arith) ∙ old k m
+    go (inr q) =
+        let here : suc k ≡ i + 1 = omega arith in
+        ap (byte (set leads (i + 1) x)) here ∙ getD-set-same leads (i + 1) x 0 l ∙ e ∙ ap (rowWord raw w) (sym q)
 
 -- ---- the states that moved
 pub all-have : (u : ℕ) → u < 64 → Has allStates u

@@ -1,3 +1,3 @@
-pub mod Words
+pub mod StateWords
 pub mod Classes
 pub mod Rounds

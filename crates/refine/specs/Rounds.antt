@@ -27,13 +27,18 @@ oneClass k = 0 ∷ replicate (k - 1) 1
 abbrev pub nextRound : List ℕ → ℕ → List ℕ → List ℕ
 nextRound raw w classes = 0 ∷ refine (rowsWith raw w classes) (drop 1 classes)
 
--- state t, the first of a new class inside the present class of state s, leads to the same classes as s
+-- state t is the first of a new class inside the present class of state s
+abbrev pub isFirst : List ℕ → List ℕ → ℕ → ℕ → Bool
+isFirst classes next s t = eqb (byte classes t) (byte classes s) && eqb (byte next t) t
+
+-- and leads to the same classes as s
 abbrev pub isFirstAlike : List ℕ → ℕ → List ℕ → List ℕ → ℕ → ℕ → Bool
 isFirstAlike raw w classes next s t =
-    eqb (byte classes t) (byte classes s) && (eqb (byte next t) t && sameList (lookedUp classes w (drop ((t - 1) * w) raw)) (lookedUp classes w (drop ((s - 1) * w) raw)))
+    let same = sameList (lookedUp classes w (drop ((t - 1) * w) raw)) (lookedUp classes w (drop ((s - 1) * w) raw)) in
+    isFirst classes next s t && same
 
--- the next round leaves a state in its class if neither it nor the first state of its class leads to a state in the word `moved`; leads has the word of each row
-pub record Stays (raw : List ℕ) (w : ℕ) (leads : List ℕ) (moved : ℕ) (classes : List ℕ) : Type 0 where
-  pub words : length leads ≡ length classes - 1
-  pub stays : (s : ℕ) → 1 ≤ s → s < length classes → bitAnd (bitOr (byte leads (s - 1)) (byte leads (byte classes s - 1))) moved ≡ 0
+-- a state keeps its class in the next round if neither it nor the first state of its class leads to a state in the word `moved`; leads has the word of each state
+pub record KeptClasses (raw : List ℕ) (w : ℕ) (leads : List ℕ) (moved : ℕ) (classes : List ℕ) : Type 0 where
+  pub words : length classes ≤ length leads
+  pub kept : (s : ℕ) → 1 ≤ s → s < length classes → bitAnd (bitOr (byte leads s) (byte leads (byte classes s))) moved ≡ 0
       → byte (nextRound raw w classes) s ≡ byte classes s

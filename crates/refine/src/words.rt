@@ -5,7 +5,7 @@ ghost use Prim.Native.Nat.{_<_, _≤_};
 ghost use lib.Dec.{eqb};
 ghost use lib.ListN.{length};
 ghost use Rattle.definitions.specs.Rows.{TableIn, EntriesBelow};
-ghost use Rattle.refine.specs.Words.{withState, leadsTo, rowWords};
+ghost use Rattle.refine.specs.StateWords.{withState, leadsTo, RowWords};
 use automaton::wide;
 
 // The word that has every state.
@@ -34,15 +34,15 @@ fn leads_to(row: &[u8], w: usize) -> u64
     word
 }
 
-// The words of a table's rows.
-pub fn fill_leads(raw: &[u8], w: usize, leads: &mut [u64])
-    requires { ⌜ TableIn (now raw) (length (now leads)) w × (length (now leads) < 128) ⌝ }
-    ensures { λ _. ⌜ now (leads .exit) ≡ rowWords (now (raw .entry)) (length (now (leads .entry))) w ⌝ }
+// The words of a table's n rows: that of state s at place s.
+pub fn fill_leads(raw: &[u8], w: usize, n: usize, leads: &mut [u64])
+    requires { ⌜ TableIn (now raw) n w × (n < length (now leads)) × (length (now leads) ≤ 128) ⌝ }
+    ensures { λ _. ⌜ RowWords (now (raw .entry)) w n (now (leads .exit)) ⌝ }
 {
     let mut i = 0;
-    while i < leads.len() {
+    while i < n {
         let at = i * w;
-        leads[i] = leads_to(&raw[at..], w);
+        leads[i + 1] = leads_to(&raw[at..], w);
         i += 1;
     }
 }

@@ -1,5 +1,5 @@
 -- `build_wide` meets its contract: there is room for 136 codes.
-use Rattle.build.proofs.Building.{width-low}
+use Rattle.build.proofs.PolicySizes.{width-low}
 use native.Mathlib.Omega.{arith}
 use borrow.Author.Needs.{needs}
 use Rattle.build.proofs.build_wide.Statement.{statement}
@@ -11,14 +11,11 @@ slice-aggregate-build-in c = search needs
 slice-aggregate-build-in-2 : tie.Need-slice-aggregate-build-in-2
 slice-aggregate-build-in-2 c = search needs
 
-slice-aggregate-build-in-3 : tie.Need-slice-aggregate-build-in-3
-slice-aggregate-build-in-3 c = search needs
-
 build-in-requires : tie.Need-build-in-requires
 build-in-requires c κs =
-    let p = c .before .before .before .before .before .before in
+    let p = c .before .before .before .before .before in
     let low = width-low (p .args .policy .now) (p .pre .0) in
-    ((p .pre .0, p .pre .1), (omega arith, omega arith, omega arith))
+    ((p .pre .0, p .pre .1), (omega arith, omega arith))
 
 same-length : tie.Need-same-length
 same-length c = search needs
@@ -32,7 +29,6 @@ build-wide-spec =
     (tie.spec
     slice-aggregate-build-in
     slice-aggregate-build-in-2
-    slice-aggregate-build-in-3
     build-in-requires
     same-length
     returns)

@@ -2,9 +2,9 @@
 use Rattle.definitions.proofs.TableBytes.{state-row, state-entries}
 use Rattle.automaton.proofs.Loops.{part-is-drop}
 use lib.ListN.{length, length-drop}
-use borrow.Author.Tests.{eq-eqb, ne-eqb}
 use native.Mathlib.Omega.{arith}
 use Prim.Native.Nat.{_-_, _+_, _*_, _<_, _≤_}
+use mathlib.Core.Path.{sym, _∙_}
 use borrow.Author.Needs.{needs}
 use Rattle.refine.proofs.is_first_alike.Statement.{statement}
 use Rattle.refine.proofs.is_first_alike.Tie as tie
@@ -16,59 +16,42 @@ row-t c = state-row (c .pre .0 .table) (c .args .t) (c .pre .1 .0) (omega (arith
 row-s : (c : tie.Start) → (c .args .s - 1) * c .args .w + c .args .w ≤ length (c .args .raw .now)
 row-s c = state-row (c .pre .0 .table) (c .args .s) (omega (arith, c .pre .1 .0, c .pre .1 .1)) (omega (arith, c .pre .1 .2))
 
-shared-slice-read-if1 : tie.Need-shared-slice-read-if1
-shared-slice-read-if1 c = search needs
-
-shared-slice-read-if1-2 : tie.Need-shared-slice-read-if1-2
-shared-slice-read-if1-2 c = search needs
-
-returns : tie.Need-returns
-returns c = simp (ne-eqb _ _ (c .if1 .taken))
-
-shared-slice-read-wide : tie.Need-shared-slice-read-wide
-shared-slice-read-wide c = search needs
-
-wide-requires : tie.Need-wide-requires
-wide-requires c κs = search needs
-
-returns-2 : tie.Need-returns-2
-returns-2 c =
-    let e = rw (c .before .wide .ensures .0) at (c .if2 .taken) in
-    simp (eq-eqb _ _ (c .before .before .before .if1 .left), ne-eqb _ _ e)
+is-first-requires : tie.Need-is-first-requires
+is-first-requires c κs = search needs
 
 sub-one : tie.Need-sub-one
 sub-one c = search needs
 
 mul-one : tie.Need-mul-one
-mul-one c = omega (arith, row-t (c .before .before .before .before .before .before .before .before .before))
+mul-one c = omega (arith, row-t (c .before .before .before .before .before))
 
 sub-other : tie.Need-sub-other
 sub-other c = search needs
 
 mul-other : tie.Need-mul-other
-mul-other c = omega (arith, row-s (c .before .before .before .before .before .before .before .before .before))
+mul-other c = omega (arith, row-s (c .before .before .before .before .before))
 
 sub-same-classes : tie.Need-sub-same-classes
-sub-same-classes c = omega (arith, row-t (c .before .before .before .before .before .before .before .before .before))
+sub-same-classes c = omega (arith, row-t (c .before .before .before .before .before))
 
 part-same-classes-start : tie.Need-part-same-classes-start
-part-same-classes-start c = omega (arith, row-t (c .before .before .before .before .before .before .before .before .before))
+part-same-classes-start c = omega (arith, row-t (c .before .before .before .before .before))
 
 part-same-classes-end : tie.Need-part-same-classes-end
 part-same-classes-end c = search needs
 
 sub-same-classes-2 : tie.Need-sub-same-classes-2
-sub-same-classes-2 c = omega (arith, row-s (c .before .before .before .before .before .before .before .before .before .before))
+sub-same-classes-2 c = omega (arith, row-s (c .before .before .before .before .before .before))
 
 part-same-classes-start-2 : tie.Need-part-same-classes-start-2
-part-same-classes-start-2 c = omega (arith, row-s (c .before .before .before .before .before .before .before .before .before .before))
+part-same-classes-start-2 c = omega (arith, row-s (c .before .before .before .before .before .before))
 
 part-same-classes-end-2 : tie.Need-part-same-classes-end-2
 part-same-classes-end-2 c = search needs
 
 same-classes-requires : tie.Need-same-classes-requires
 same-classes-requires c κs =
-    let p = c .before .before .before .before .before .before .before .before .before .before .before in
+    let p = c .before .before .before .before .before .before .before in
     let a = p .args in
     let h = row-t p in
     let k = row-s p in
@@ -80,21 +63,17 @@ same-classes-requires c κs =
       (state-entries (p .pre .0 .table) (a .t) pt (omega (arith, p .pre .1 .1, p .pre .1 .2)) _ some, state-entries (p .pre .0 .table) (a .s) ps (omega (arith, p .pre .1 .2)) _ some),
     )
 
-returns-3 : tie.Need-returns-3
-returns-3 c =
-    let e = rw (c .before .before .before .before .wide .ensures .0) at (c .before .before .before .if2 .left) in
-    simp (eq-eqb _ _ (c .before .before .before .before .before .before .if1 .left), eq-eqb _ _ e) (simp part-is-drop at (c .same-classes .ensures))
+returns : tie.Need-returns
+returns c = rw (sym (c .before .before .before .before .is-first .ensures) ∙ c .before .before .before .if1 .taken) (simp part-is-drop at (c .same-classes .ensures))
+
+returns-2 : tie.Need-returns-2
+returns-2 c = rw (sym (c .before .is-first .ensures) ∙ c .if1 .left)
 
 pub is-first-alike-spec : {M : Type 1} → statement M
 is-first-alike-spec =
     tie.close
     (tie.spec
-    shared-slice-read-if1
-    shared-slice-read-if1-2
-    returns
-    shared-slice-read-wide
-    wide-requires
-    returns-2
+    is-first-requires
     sub-one
     mul-one
     sub-other
@@ -106,4 +85,5 @@ is-first-alike-spec =
     part-same-classes-start-2
     part-same-classes-end-2
     same-classes-requires
-    returns-3)
+    returns
+    returns-2)

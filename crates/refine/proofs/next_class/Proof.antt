@@ -1,4 +1,4 @@
--- `next_class` meets its contract: a state that stays keeps its class, and for others the search is made.
+-- `next_class` meets its contract: a state that keeps its class, and the search for others.
 use mathlib.Core.Path.{sym, _∙_}
 use Prim.Native.Nat.{_≤_}
 use Rattle.definitions.specs.Bytes.{byte}
@@ -18,17 +18,11 @@ shared-slice-read-wide c = search needs
 wide-requires : tie.Need-wide-requires
 wide-requires c κs = search needs
 
-sub-if1 : tie.Need-sub-if1
-sub-if1 c = search needs
-
 mul-if1 : tie.Need-mul-if1
 mul-if1 c = search needs
 
 shared-slice-read-if1 : tie.Need-shared-slice-read-if1
 shared-slice-read-if1 c = search needs
-
-sub-if1-2 : tie.Need-sub-if1-2
-sub-if1-2 c = rw (c .before .wide .ensures .0) (bounds (c .before .before .before .before .before .before .before) .0)
 
 mul-if1-2 : tie.Need-mul-if1-2
 mul-if1-2 c = search needs
@@ -41,8 +35,8 @@ shared-slice-read-if1-2 c =
 returns : tie.Need-returns
 returns c =
     let p = c .before .before .before .before .before .before .before .before .before in
-    c .before .before .before .wide .ensures .0 ∙ sym (p .pre .0 .1 .stays (p .args .s) (p .pre .1 .0 .0) (p .pre .1 .0 .1)
-    (rw (c .before .before .before .wide .ensures .0) at (c .if1 .taken)))
+    let class = c .before .before .before .wide .ensures .0 in
+    class ∙ sym (p .pre .0 .1 .kept (p .args .s) (p .pre .1 .0 .0) (p .pre .1 .0 .1) (rw class at (c .if1 .taken)))
 
 first-alike-requires : tie.Need-first-alike-requires
 first-alike-requires c κs = search needs
@@ -56,10 +50,8 @@ next-class-spec =
     (tie.spec
     shared-slice-read-wide
     wide-requires
-    sub-if1
     mul-if1
     shared-slice-read-if1
-    sub-if1-2
     mul-if1-2
     shared-slice-read-if1-2
     returns

@@ -8,7 +8,7 @@ use Rattle.automaton.proofs.Loops.{fold-more}
 use Rattle.definitions.specs.Situation.{emptySet}
 use Rattle.definitions.proofs.RowsWritten.{fill-turn, fill-done}
 use Rattle.refine.specs.Rounds.{nextRound}
-use Rattle.refine.specs.Words.{withMoved}
+use Rattle.refine.specs.StateWords.{withMoved}
 use Rattle.refine.proofs.Rounds.{first-unmoved, next-length, class-low}
 use borrow.Author.Needs.{needs}
 use Rattle.refine.proofs.round.Statement.{statement}

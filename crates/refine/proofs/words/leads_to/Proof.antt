@@ -4,7 +4,7 @@ use Prim.Native.Nat.{_≤_, _-_}
 use native.Mathlib.Omega.{arith}
 use Rattle.automaton.proofs.Loops.{fold-more}
 use Rattle.definitions.specs.Situation.{emptySet}
-use Rattle.refine.specs.Words.{withEntry, leadsTo}
+use Rattle.refine.specs.StateWords.{withEntry, leadsTo}
 use borrow.Author.Needs.{needs}
 use Rattle.refine.proofs.words.leads_to.Statement.{statement}
 use Rattle.refine.proofs.words.leads_to.Tie as tie

@@ -1,4 +1,0 @@
-pub mod Numbering
-pub mod Classing
-pub mod Spreading
-pub mod Ordering
