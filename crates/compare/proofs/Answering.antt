@@ -22,7 +22,7 @@ use Rattle.definitions.proofs.Accepted.{book-passed}
 use Rattle.definitions.proofs.Comparisons.{same-width}
 use Rattle.search.specs.Trail.{historyAt}
 use Rattle.search.proofs.Trails.{history-short}
-use Rattle.pairs.specs.Search.{Books, Traced, differenceAt}
+use Rattle.comparepairs.specs.Search.{Books, Traced, differenceAt}
 
 -- ---- the rows
 module _ (b d buffer : List ℕ) where

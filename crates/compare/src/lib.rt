@@ -6,13 +6,13 @@ ghost use Rattle.definitions.specs.Book as Book;
 ghost use Rattle.definitions.specs.Answer.{given, written, historyBytes};
 ghost use Rattle.definitions.specs.Compare.{comparison, compareRefusal, compareAnswer, compareBuffer};
 ghost use Rattle.compare.specs.Answer.{comparedAnswer};
-ghost use Rattle.pairs.specs.Search.{Ready, Traced, differenceAt, spotted, Writable};
+ghost use Rattle.comparepairs.specs.Search.{Ready, Traced, differenceAt, spotted, Writable};
 use book::same_frame;
 use book::states;
 use book::width;
 use bookcheck::refusal;
-use pairs::Spot;
-use pairs::first_difference;
+use comparepairs::Spot;
+use comparepairs::first_difference;
 use search::write_history;
 
 // What comparing gives: the number of the row that turns the call down, that the same histories are possible in both books, or the length of the

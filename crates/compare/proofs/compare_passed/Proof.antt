@@ -7,7 +7,7 @@ use denote.Ref.{now}
 use lib.ListN.{length, take, replicate, length-replicate}
 use lib.Seq.{length-take-le}
 use Rattle.definitions.specs.Book.{width, states}
-use Rattle.pairs.specs.Search.{Books, Ready}
+use Rattle.comparepairs.specs.Search.{Books, Ready}
 use Rattle.compare.proofs.Answering.{Passing, passing, passing-books}
 use borrow.Author.Needs.{needs}
 use Rattle.compare.proofs.compare_passed.Statement.{statement}
