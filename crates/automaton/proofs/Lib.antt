@@ -22,3 +22,4 @@ pub mod Separating
 pub mod Comparing
 pub mod Pairs
 pub mod Cases
+pub mod ByteWords

@@ -5,3 +5,4 @@ pub mod Explore
 pub mod Table
 pub mod Join
 pub mod Pair
+pub mod ByteWords

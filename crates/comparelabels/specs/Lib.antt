@@ -1,2 +1,3 @@
-pub mod Labels
-pub mod Rows
+pub mod LabelBytes
+pub mod FirstFailing
+pub mod RowLabels

@@ -1,7 +1,7 @@
-// Labels of numbers, by which states of two books are found to belong together, and rows read by the labels of the states that they lead to.
-mod classes;
-mod rows;
+// The labels of compare: states of two books that are found to belong together get one label, and rows are read by the labels of their entries.
+mod label_bytes;
+mod row_labels;
 
-pub use classes::merge;
-pub use classes::own_labels;
-pub use rows::first_unlike;
+pub use label_bytes::begin_labels;
+pub use label_bytes::merge;
+pub use row_labels::first_unlike;

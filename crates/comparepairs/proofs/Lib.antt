@@ -1,2 +1,4 @@
 -- Laws that belong to no one function.
-pub mod Searching
+pub mod BookRows
+pub mod PairQueue
+pub mod PairSearch

@@ -1,26 +1,29 @@
 // The search for a difference of two books: breadth-first over pairs of states, one of each book, with labels (Hopcroft and Karp). The states of a
-// queued pair get one label, and a pair of one label is not queued, so that there are at most as many pairs as states. Pairs stand two bytes a place.
+// queued pair get one label, and a pair of one label is not queued, so that there are at most as many pairs as states. The queue has two bytes a place:
+// pair k has its parent's place and its code at place k, as a trail has them, and its states at place label.len() + k.
 ghost use mathlib.Core.Path.{_≡_};
-ghost use Prim.Native.Nat.{_+_, _≤_, _<_};
-ghost use lib.ListN.{length, set};
-ghost use Rattle.automaton.specs.Below.{listBelow};
+ghost use mathlib.Core.Bool.{true, false};
+ghost use Prim.Native.Nat.{_+_, _*_, _≤_, _<_};
+ghost use lib.ListN.{length, getD};
 ghost use Rattle.definitions.specs.Book as Book;
 ghost use Rattle.definitions.proofs.Accepted.{BookLayout};
 ghost use Rattle.search.specs.Trail.{placed};
-ghost use Rattle.comparelabels.specs.Labels.{itself};
-ghost use Rattle.comparelabels.specs.Rows.{FirstFailing};
-ghost use Rattle.comparepairs.specs.Search.{Ready, Readable, Searching, AlikeBy, rowFrom, Outcome, Found};
+ghost use Rattle.comparelabels.specs.LabelBytes.{labelAt, begunLabels, merged, OwnFrom};
+ghost use Rattle.comparelabels.specs.RowLabels.{RowPair};
+ghost use Rattle.comparepairs.specs.PairSearch.{BooksReady, PairSearch, rowOf, Both, Outcome, Spotted};
 use automaton::wide;
-use book::entry;
+use book::states;
+use book::width;
+use comparelabels::begin_labels;
 use comparelabels::first_unlike;
 use comparelabels::merge;
-use comparelabels::own_labels;
 use search::put;
 
-// What trying codes of a pair shows: a code that just one of its states can take, or the number of pairs queued by then.
-enum Tried {
-    Parts(usize),
-    Pairs(usize),
+// What trying the codes of a pair shows: how many pairs are queued by then, and the first code that just one of its states can take; the width if there
+// is none.
+struct Tried {
+    pairs: usize,
+    code: usize,
 }
 
 // Where two books differ: nowhere, or by a code of a pair.
@@ -29,136 +32,110 @@ pub enum Spot {
     At(usize, usize),
 }
 
-// The first pair, of the two starts, and the labels: each number has its own, but no state of the first book has that of no state of the second, and the
-// second start that of the first.
-fn begin(n: usize, pairs: &mut [u8], label: &mut [u8])
-    requires { ⌜ (n ≤ 127) × (1 < length (now pairs)) × (n + 2 < length (now label)) × (length (now label) ≤ 256) ⌝ }
-    ensures { λ _. ⌜ now (pairs .exit) ≡ placed (now (pairs .entry)) 0 1 1 ⌝ }
-    ensures { λ _. ⌜ now (label .exit) ≡ set (set (listBelow (length (now (label .entry))) itself) 0 (n + 1)) (n + 2) 1 ⌝ }
+// The first pair, of the two starts, and the labels.
+fn begin(first: &[u8], queue: &mut [u8], label: &mut [u8])
+    requires { ⌜ (12 ≤ length (now first)) × (2 * length (now label) + 1 < length (now queue)) ⌝ }
+    requires { ⌜ (Book.states (now first) + 2 < length (now label)) × (length (now label) ≤ 256) ⌝ }
+    ensures { λ _. ⌜ now (queue .exit) ≡ placed (now (queue .entry)) (length (now (label .entry))) 1 1 ⌝ }
+    ensures { λ _. ⌜ now (label .exit) ≡ begunLabels (Book.states (now (first .entry)) + 1) (length (now (label .entry))) ⌝ }
 {
-    put(pairs, 0, 1, 1);
-    own_labels(label);
-    label[0] = (n + 1) as u8;
-    label[n + 2] = 1;
+    put(queue, label.len(), 1, 1);
+    begin_labels(label, states(first) + 1);
 }
 
-// The bytes of a book from row s on.
+// Row s of a book.
 fn row(book: &[u8], width: usize, s: usize) -> &[u8]
     requires { ⌜ BookLayout (now book) × (width ≡ Book.width (now book)) ⌝ }
     requires { ⌜ (1 ≤ s) × (s ≤ Book.states (now book)) ⌝ }
-    ensures { λ r. ⌜ now r ≡ rowFrom (now (book .entry)) width s ⌝ }
+    ensures { λ r. ⌜ now r ≡ rowOf (now (book .entry)) s ⌝ }
 {
-    &book[12 + (s - 1) * width..]
+    let start = 12 + (s - 1) * width;
+    let end = start + width;
+    &book[start..end]
 }
 
-// The first code of pair i from c on that leads to states of two labels, or is possible in just one of its states; the width if there is none.
-fn next_code(
-    first: &[u8],
-    second: &[u8],
-    width: usize,
-    n: usize,
-    i: usize,
-    c: usize,
-    pairs: &[u8],
-    label: &[u8],
-) -> usize
-    requires { ⌜ Readable (now first) (now second) width n i (now pairs) (now label) ⌝ }
-    requires { ⌜ c ≤ width ⌝ }
-    ensures { λ r. ⌜ FirstFailing (AlikeBy (now (first .entry)) (now (second .entry)) n i (now (pairs .entry)) (now (label .entry))) c width r ⌝ }
+// Whether both states of a pair can take code c; not if c is the width.
+fn both(one: &[u8], other: &[u8], c: usize) -> bool
+    requires { ⌜ length (now other) ≡ length (now one) ⌝ }
+    ensures { λ r. ⌜ (r ≡ true → Both (now (one .entry)) (now (other .entry)) c) × (r ≡ false → Both (now (one .entry)) (now (other .entry)) c → ⊥) ⌝ }
 {
-    let one = row(first, width, wide(pairs[2 * i]));
-    let other = row(second, width, wide(pairs[2 * i + 1]));
-    first_unlike(one, other, width, n + 1, label, c)
+    if c < one.len() {
+        if 0 < one[c] {
+            return 0 < other[c];
+        }
+    }
+    false
 }
 
-// Such a code c of pair i, of m pairs: where both states can take it the labels of the states that it leads to are merged, and the pair of them is queued.
-fn try_code(
-    first: &[u8],
-    second: &[u8],
-    width: usize,
-    n: usize,
+// Queues the pair that code c leads to from pair i, as the m-th, and merges the labels of its states.
+fn add_pair(
+    one: &[u8],
+    other: &[u8],
     m: usize,
     i: usize,
     c: usize,
-    pairs: &mut [u8],
-    trail: &mut [u8],
+    queue: &mut [u8],
     label: &mut [u8],
-) -> Tried
-    requires { ⌜ Searching (now first) (now second) width n m i c (now pairs) (now trail) (now label) ⌝ }
-    requires { ⌜ (i < m) × (c < width) ⌝ }
-    requires { ⌜ (AlikeBy (now first) (now second) n i (now pairs) (now label) c → ⊥) ⌝ }
-    ensures { λ r. ⌜ Outcome (now (first .entry)) (now (second .entry)) width n i (c + 1) (now (pairs .exit)) (now (trail .exit)) (now (label .exit)) r ⌝ }
+)
+    requires { ⌜ RowPair (now one) (now other) (labelAt (now label) 0) (now label) × OwnFrom (labelAt (now label) 0) (now label) ⌝ }
+    requires { ⌜ Both (now one) (now other) c × (c < 256) × (i < 256) × (m < length (now label)) × (4 * length (now label) ≤ length (now queue)) ⌝ }
+    ensures { λ _. ⌜ now (queue .exit) ≡ placed (placed (now (queue .entry)) m i c) (length (now (label .entry)) + m) (getD (now (one .entry)) c 0) (getD (now (other .entry)) c 0) ⌝ }
+    ensures { λ _. ⌜ now (label .exit) ≡ merged (now (label .entry)) (getD (now (one .entry)) c 0) (labelAt (now (label .entry)) 0 + getD (now (other .entry)) c 0) ⌝ }
 {
-    let x = entry(first, width, wide(pairs[2 * i]), c);
-    let y = entry(second, width, wide(pairs[2 * i + 1]), c);
-    if x == 0 {
-        return Tried::Parts(c);
-    }
-    if y == 0 {
-        return Tried::Parts(c);
-    }
-    put(pairs, m, x as u8, y as u8);
-    put(trail, m, i as u8, c as u8);
-    let to = label[x];
-    merge(label, n, n + 1 + y, to);
-    Tried::Pairs(m + 1)
+    let x = one[c];
+    let y = other[c];
+    put(queue, m, i as u8, c as u8);
+    put(queue, label.len() + m, x, y);
+    merge(label, wide(x), wide(y));
 }
 
-// All codes of pair i, of m pairs, up to the first that just one of its states can take.
-fn try_codes(
+// Tries the codes of pair i, of m pairs, up to the first that just one of its states can take. Codes that lead to two states of one label, or that neither
+// state can take, are passed over.
+fn try_pair(
     first: &[u8],
     second: &[u8],
     width: usize,
-    n: usize,
     m: usize,
     i: usize,
-    pairs: &mut [u8],
-    trail: &mut [u8],
+    queue: &mut [u8],
     label: &mut [u8],
 ) -> Tried
-    requires { ⌜ Searching (now first) (now second) width n m i 0 (now pairs) (now trail) (now label) ⌝ }
-    requires { ⌜ i < m ⌝ }
-    ensures { λ r. ⌜ Outcome (now (first .entry)) (now (second .entry)) width n i width (now (pairs .exit)) (now (trail .exit)) (now (label .exit)) r ⌝ }
+    requires { ⌜ PairSearch (now first) (now second) m i 0 (now queue) (now label) ⌝ }
+    requires { ⌜ (width ≡ Book.width (now first)) × (i < m) ⌝ }
+    ensures { λ r. ⌜ Outcome (now (first .entry)) (now (second .entry)) i r (now (queue .exit)) (now (label .exit)) ⌝ }
 {
+    let place = 2 * (label.len() + i);
+    let one = row(first, width, wide(queue[place]));
+    let other = row(second, width, wide(queue[place + 1]));
     let mut count = m;
-    let mut c = 0;
-    while c < width {
-        let next = next_code(first, second, width, n, i, c, pairs, label);
-        if next == width {
-            return Tried::Pairs(count);
-        }
-        let tried = try_code(first, second, width, n, count, i, next, pairs, trail, label);
-        match tried {
-            Tried::Parts(code) => return Tried::Parts(code),
-            Tried::Pairs(more) => count = more,
-        }
-        c = next + 1;
+    let mut c = first_unlike(one, other, label, 0);
+    while both(one, other, c) {
+        add_pair(one, other, count, i, c, queue, label);
+        count += 1;
+        c = first_unlike(one, other, label, c + 1);
     }
-    Tried::Pairs(count)
+    Tried {
+        pairs: count,
+        code: c,
+    }
 }
 
-// Where two books of one frame differ. The history of the place found stands in the trail.
-pub fn first_difference(
-    first: &[u8],
-    second: &[u8],
-    width: usize,
-    n: usize,
-    pairs: &mut [u8],
-    trail: &mut [u8],
-    label: &mut [u8],
-) -> Spot
-    requires { ⌜ Ready (now first) (now second) width n (now pairs) (now trail) (now label) ⌝ }
-    ensures { λ r. ⌜ Found (now (first .entry)) (now (second .entry)) (now (trail .exit)) r ⌝ }
+// Where two books of one frame differ. The history of the place found stands in the queue.
+pub fn first_difference(first: &[u8], second: &[u8], queue: &mut [u8], label: &mut [u8]) -> Spot
+    requires { ⌜ BooksReady (now first) (now second) (now queue) (now label) ⌝ }
+    ensures { λ r. ⌜ Spotted (now (first .entry)) (now (second .entry)) (now (queue .exit)) r ⌝ }
 {
-    begin(n, pairs, label);
+    begin(first, queue, label);
+    let width = width(first);
     let mut m = 1;
     let mut i = 0;
     while i < m {
-        let tried = try_codes(first, second, width, n, m, i, pairs, trail, label);
-        match tried {
-            Tried::Parts(code) => return Spot::At(i, code),
-            Tried::Pairs(more) => m = more,
+        let tried = try_pair(first, second, width, m, i, queue, label);
+        let code = tried.code;
+        if code < width {
+            return Spot::At(i, code);
         }
+        m = tried.pairs;
         i += 1;
     }
     Spot::Nowhere
