@@ -68,5 +68,5 @@ passed-books b d buffer p =
     record {
       first = book-passed b .0 (p .first);
       second = second;
-      sameWidth = same-width b d (same-list-true (frame b) (frame d) (p .frames)) (second .layout .fieldsMost);
+      sameWidth = same-width b d (same-list-true (frame b) (frame d) (p .frames)) (second .layout .header .fieldsMost);
     }

@@ -7,7 +7,7 @@ use lib.ListN.{length, getD, drop, length-drop}
 use lib.Seq.{getD-take, getD-drop, length-take-le}
 use Rattle.automaton.specs.Machine.{step}
 use Rattle.definitions.specs.Book.{width, states, entry, bookMachine}
-use Rattle.definitions.proofs.Accepted.{BookPassed}
+use Rattle.definitions.specs.Checked.{BookPassed}
 use Rattle.definitions.proofs.BookSteps.{step-is-entry, step-inside}
 use Rattle.book.proofs.Places.{row-inside}
 use Rattle.comparepairs.specs.PairSearch.{rowOf}

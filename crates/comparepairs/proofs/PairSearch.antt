@@ -10,9 +10,10 @@ use native.Mathlib.Decide.{decLt}
 use lib.ListN.{length, getD, length-map}
 use Rattle.automaton.specs.History.{History}
 use Rattle.automaton.specs.Machine.{step}
-use Rattle.automaton.proofs.Labels.{Among}
+use Rattle.automaton.specs.Labels.{Among}
 use Rattle.automaton.proofs.Separating.{HasStates, Answers, after-within}
-use Rattle.automaton.proofs.Comparing.{Queue, Search, pairAt, search-begun, turn-neither, turn-same, turn-new, turn-pair, search-right, search-few, search-alike, search-found, Added}
+use Rattle.automaton.specs.PairQueue.{Queue, Search, pairAt}
+use Rattle.automaton.proofs.Comparing.{search-begun, turn-neither, turn-same, turn-new, turn-pair, search-right, search-few, search-alike, search-found, Added}
 use Rattle.automaton.proofs.Pairs.{difference-is}
 use Rattle.definitions.specs.Book.{width, states, bookMachine}
 use Rattle.definitions.specs.Compare.{comparison}
@@ -28,7 +29,7 @@ use Rattle.comparepairs.specs.PairSearch.{Books, BooksReady, PairSearch,
 use Rattle.comparepairs.specs.declared.Tried.{Tried}
 use Rattle.comparepairs.specs.declared.Spot.the-variants.{Nowhere, At}
 use Rattle.comparepairs.proofs.BookRows.{row-length, row-step, row-most}
-use Rattle.comparepairs.proofs.PairQueue.{left-put, right-put, pair-added}
+use Rattle.comparepairs.proofs.QueueBytes.{left-put, right-put, pair-added}
 
 -- ---- the two machines. The number states b + 1 stands for no state, so that the first machine is taken as one with so many states.
 module _ (b d : List ℕ) (B : Books b d) where
@@ -46,12 +47,12 @@ module _ (b d : List ℕ) (B : Books b d) where
   unfolding comparison
   comparison-is o r =
       difference-is (bookMachine b) (bookMachine d) (states b) (states d) (has-states b (B .first)) of-second (B .sameWidth) 128 16383
-      (omega (arith, B .second .layout .statesMost)) (omega (arith, B .first .layout .statesMost, B .second .layout .statesMost)) o r
+      (omega (arith, B .second .layout .header .statesMost)) (omega (arith, B .first .layout .header .statesMost, B .second .layout .header .statesMost)) o r
 
 -- ---- the beginning
 module _ (b d queue label : List ℕ) (R : BooksReady b d queue label) where
   pub room-begun : states b + 2 < length label
-  room-begun = omega (arith, R .roomLabel, R .books .second .layout .statesSome)
+  room-begun = omega (arith, R .roomLabel, R .books .second .layout .header .statesSome)
 
   pub begun : (queue′ label′ : List ℕ) → queue′ ≡ placed queue (length label) 1 1 → label′ ≡ begunLabels (states b + 1) (length label)
       → PairSearch b d 1 0 0 queue′ label′
@@ -70,7 +71,7 @@ module _ (b d queue label : List ℕ) (R : BooksReady b d queue label) where
   })
     where
       least : 1 < states b + 1
-      least = omega (arith, R .books .first .layout .statesSome)
+      least = omega (arith, R .books .first .layout .header .statesSome)
 
       room : states b + 1 + 1 < length label
       room = omega (arith, room-begun)
@@ -113,7 +114,7 @@ module _ (b d : List ℕ) (m i c : ℕ) (queue label : List ℕ) (S : PairSearch
         most = omega (
           arith,
           p .left-after,
-          after-within (bookMachine b) (states b) (has-states b (books .first)) 1 (books .first .layout .statesSome)
+          after-within (bookMachine b) (states b) (has-states b (books .first)) 1 (books .first .layout .header .statesSome)
               (pairAt (queueOf (length label) queue) k .history),
         );
       }
@@ -188,7 +189,7 @@ module _ (b d : List ℕ) (m i c : ℕ) (one other queue label : List ℕ) (T : 
     (rows-read, rw (S .labels .zero) (S .labels)),
     (
       B,
-      omega (arith, B .code, width-one, S .ready .books .first .layout .widthMost),
+      omega (arith, B .code, width-one, S .ready .books .first .layout .header .widthMost),
       omega (arith, T .pair, few, S .ready),
       omega (arith, few, S .ready),
       S .ready .roomQueue,
@@ -243,9 +244,9 @@ module _ (b d : List ℕ) (m i c : ℕ) (one other queue label : List ℕ) (T : 
             (search-found (bookMachine b) (bookMachine d) (states b + 1) (states d) m i c q (labelAt label) (S .search) (T .pair) (x c) (y c) (steps-left c k) (steps-right c k) (parted k n));
         writable = record {
           falls = λ j h. S .search .queue .falls j (omega arith);
-          few = omega (arith, few, S .ready .books .first .layout .statesMost, S .ready .books .second .layout .statesMost);
+          few = omega (arith, few, S .ready .books .first .layout .header .statesMost, S .ready .books .second .layout .header .statesMost);
           room = omega (arith, few, S .ready .roomQueue, S .ready .roomLabel);
-          byte = omega (arith, S .ready .books .first .layout .widthMost);
+          byte = omega (arith, S .ready .books .first .layout .header .widthMost);
         };
       };
       next = λ l. turned-pair b d m i c queue label S (omega arith);

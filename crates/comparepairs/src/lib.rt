@@ -6,7 +6,7 @@ ghost use mathlib.Core.Bool.{true, false};
 ghost use Prim.Native.Nat.{_+_, _*_, _≤_, _<_};
 ghost use lib.ListN.{length, getD};
 ghost use Rattle.definitions.specs.Book as Book;
-ghost use Rattle.definitions.proofs.Accepted.{BookLayout};
+ghost use Rattle.definitions.specs.Checked.{BookLayout};
 ghost use Rattle.search.specs.Trail.{placed};
 ghost use Rattle.comparelabels.specs.LabelBytes.{labelAt, begunLabels, merged, OwnFrom};
 ghost use Rattle.comparelabels.specs.RowLabels.{RowPair};
