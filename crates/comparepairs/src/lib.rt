@@ -108,15 +108,18 @@ fn try_pair(
     let one = row(first, width, wide(queue[place]));
     let other = row(second, width, wide(queue[place + 1]));
     let mut count = m;
-    let mut c = first_unlike(one, other, label, 0);
-    while both(one, other, c) {
-        add_pair(one, other, count, i, c, queue, label);
+    let mut c = 0;
+    loop {
+        let code = first_unlike(one, other, label, c);
+        if !both(one, other, code) {
+            return Tried {
+                pairs: count,
+                code: code,
+            };
+        }
+        add_pair(one, other, count, i, code, queue, label);
         count += 1;
-        c = first_unlike(one, other, label, c + 1);
-    }
-    Tried {
-        pairs: count,
-        code: c,
+        c = code + 1;
     }
 }
 

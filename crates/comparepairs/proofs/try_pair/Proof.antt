@@ -1,11 +1,10 @@
--- `try_pair` meets its contract: the search has come to code c of pair i, which leads to two labels.
+-- `try_pair` meets its contract: the search has come to code c of pair i, whose rows are at hand.
 use mathlib.Core.Path.{_≡_, refl, ap, _∙_}
-use Prim.Native.Nat.{_+_, _-_, _≤_, _<_}
+use Prim.Native.Nat.{_+_, _-_, _≤_}
 use native.Mathlib.Omega.{arith}
 use denote.Ref.{now}
 use lib.ListN.{length}
-use Rattle.comparelabels.specs.LabelBytes.{labelAt}
-use Rattle.comparelabels.specs.RowLabels.{SameLabel}
+use borrow.Author.Tests.{not-true, not-false}
 use Rattle.comparepairs.specs.PairSearch.{rowOf, Both}
 use Rattle.comparepairs.proofs.PairSearch.{Trying, left-state, right-state, rows-read, addable, tried, added, passed-over}
 use borrow.Author.Needs.{needs}
@@ -16,7 +15,6 @@ abbrev Inv-loop : tie.InvT-loop
 Inv-loop first second width m i queue₀ label₀ place one other count₀ c₀ queue label count c =
     Trying first second count i c one other queue label
     × (c ≤ length one)
-    × (c < length one → SameLabel one other (labelAt label 0) label c → ⊥)
     × (length queue ≡ length queue₀)
     × (length label ≡ length label₀)
 
@@ -70,51 +68,26 @@ module _ (c : tie.After-row2 Inv-loop μ-loop) where
     ofSecond = c .row2 .ensures ∙ ap (rowOf (now (start .args .second))) (c .before .wide2 .ensures .0);
   }
 
-first-unlike-requires : tie.Need-first-unlike-requires Inv-loop μ-loop
-first-unlike-requires c κs = (rows-read _ _ _ _ _ _ _ _ _ (begun (c .before)), omega arith)
-
 loop-holds : tie.Need-loop-holds Inv-loop μ-loop
-loop-holds c =
-    let F = c .first-unlike .ensures in
-    (passed-over _ _ _ _ _ _ _ _ _ _ (begun (c .before .before)) F, F .most, F .fails, refl, refl)
+loop-holds c = (begun c, omega arith, refl, refl)
 
-both-requires : tie.Need-both-requires Inv-loop μ-loop
-both-requires c κs = rows-read _ _ _ _ _ _ _ _ _ (c .loop .inv .0) .width
+first-unlike-requires : tie.Need-first-unlike-requires Inv-loop μ-loop
+first-unlike-requires c κs = let inv = c .before .loop .inv in (rows-read _ _ _ _ _ _ _ _ _ (inv .0), inv .1)
 
-add-pair-requires : tie.Need-add-pair-requires Inv-loop μ-loop
-add-pair-requires c κs = addable _ _ _ _ _ _ _ _ _ (c .before .before .before .before .loop .inv .0) (c .before .before .before .both .ensures .0 (c .before .before .if1 .taken))
-
-add-count : tie.Need-add-count Inv-loop μ-loop
-add-count c = search needs
-
-add-first-unlike : tie.Need-add-first-unlike Inv-loop μ-loop
-add-first-unlike c = search needs
-
--- the pair is queued
-module _ (c : tie.After-add-pair Inv-loop μ-loop) where
+-- the codes before the one found are passed over
+module _ (c : tie.After-first-unlike Inv-loop μ-loop) where
   abbrev at : tie.At-loop Inv-loop μ-loop
-  at = c .before .before .before .before .before
+  at = c .before .before
 
   abbrev rows : tie.After-row2 Inv-loop μ-loop
-  rows = c .before .before .before .before .before .before .before .before
+  rows = at .before
 
-  both-take : Both (now (rows .before .before .before .row .result)) (now (rows .row2 .result)) (at .loop .c)
-  both-take = c .before .before .before .before .both .ensures .0 (c .before .before .before .if1 .taken)
+  come : Trying (now (start rows .args .first)) (now (start rows .args .second)) (at .loop .count) (start rows .args .i) (c .first-unlike .result)
+      (now (rows .before .before .before .row .result)) (now (rows .row2 .result)) (at .loop .queue) (at .loop .label)
+  come = passed-over _ _ _ _ _ _ _ _ _ _ (at .loop .inv .0) (c .first-unlike .ensures)
 
-  queued : Trying (now (start rows .args .first)) (now (start rows .args .second)) (at .loop .count + 1) (start rows .args .i) (at .loop .c + 1)
-      (now (rows .before .before .before .row .result)) (now (rows .row2 .result)) (c .add-pair .last .1 .1 .1 .1 .1 .0) (c .add-pair .last .1 .1 .1 .1 .1 .1 .0)
-  queued = added _ _ _ _ _ _ _ _ _ (at .loop .inv .0) (at .loop .inv .2) both-take _ _ (c .add-pair .ensures .0) (c .add-pair .ensures .1)
-
-first-unlike-requires-2 : tie.Need-first-unlike-requires-2 Inv-loop μ-loop
-first-unlike-requires-2 c κs = (rows-read _ _ _ _ _ _ _ _ _ (queued (c .before .before .before .before .before)), omega (arith, both-take (c .before .before .before .before .before) .code))
-
-loop-less : tie.Need-loop-less Inv-loop μ-loop
-loop-less c = search needs
-
-loop-again : tie.Need-loop-again Inv-loop μ-loop
-loop-again c =
-    let F = c .first-unlike2 .ensures in
-    (passed-over _ _ _ _ _ _ _ _ _ _ (queued (c .before .before .before .before .before .before)) F, F .most, F .fails, search needs, search needs)
+both-requires : tie.Need-both-requires Inv-loop μ-loop
+both-requires c κs = rows-read _ _ _ _ _ _ _ _ _ (come c) .width
 
 same-length : tie.Need-same-length Inv-loop μ-loop
 same-length c = search needs
@@ -123,7 +96,32 @@ same-length-2 : tie.Need-same-length-2 Inv-loop μ-loop
 same-length-2 c = search needs
 
 returns : tie.Need-returns Inv-loop μ-loop
-returns c = let inv = c .before .before .loop .inv in tried _ _ _ _ _ _ _ _ _ (inv .0) (inv .2) _ refl refl (c .before .both .ensures .1 (c .if1 .left))
+returns c = let o = c .before .before in tried _ _ _ _ _ _ _ _ _ (come o) (o .first-unlike .ensures .fails) _ refl refl (c .before .both .ensures .1 (not-true _ (c .if1 .taken)))
+
+module _ (c : tie.Else1 Inv-loop μ-loop) where
+  abbrev found : tie.After-first-unlike Inv-loop μ-loop
+  found = c .before .before
+
+  both-take : Both (now (rows found .before .before .before .row .result)) (now (rows found .row2 .result)) (found .first-unlike .result)
+  both-take = c .before .both .ensures .0 (not-false _ (c .if1 .left))
+
+add-pair-requires : tie.Need-add-pair-requires Inv-loop μ-loop
+add-pair-requires c κs = let o = c .before .before in addable _ _ _ _ _ _ _ _ _ (come (found o)) (both-take o)
+
+add-count : tie.Need-add-count Inv-loop μ-loop
+add-count c = search needs
+
+add-c : tie.Need-add-c Inv-loop μ-loop
+add-c c = let o = c .before .before .before .before .before .before .before in omega (arith, both-take o .code, found o .first-unlike .ensures .most)
+
+loop-less : tie.Need-loop-less Inv-loop μ-loop
+loop-less c = let o = c .before .before .before .before .before .before .before in omega (arith, both-take o .code, found o .first-unlike .ensures .least)
+
+loop-again : tie.Need-loop-again Inv-loop μ-loop
+loop-again c =
+    let o = c .before .before .before .before .before .before .before in
+    let made = c .before .before .before .before .add-pair .ensures in
+    (added _ _ _ _ _ _ _ _ _ (come (found o)) (found o .first-unlike .ensures .fails) (both-take o) _ _ (made .0) (made .1), omega (arith, both-take o .code), search needs, search needs)
 
 pub try-pair-spec : {M : Type 1} → statement M
 try-pair-spec =
@@ -140,15 +138,14 @@ try-pair-spec =
     slice-read-wide-2
     wide-requires-2
     row-requires-2
-    first-unlike-requires
     loop-holds
+    first-unlike-requires
     both-requires
-    add-pair-requires
-    add-count
-    add-first-unlike
-    first-unlike-requires-2
-    loop-less
-    loop-again
     same-length
     same-length-2
-    returns)
+    returns
+    add-pair-requires
+    add-count
+    add-c
+    loop-less
+    loop-again)
