@@ -12,8 +12,7 @@ use Rattle.automaton.specs.Below.{allBelow}
 use Rattle.automaton.proofs.Counting.{and-true}
 use Rattle.definitions.specs.Bytes.{byte, within}
 use Rattle.definitions.specs.Book.{events, fields, requests, states}
-use Rattle.definitions.specs.Refusal.{countHolds, layoutHolds}
-use Rattle.bookcheck.specs.Entries.{isMarked}
+use Rattle.definitions.specs.Refusal.{isMarked, countHolds, layoutHolds}
 
 module _ (b : List ℕ) where
   pub marked-long : isMarked b ≡ true → 12 ≤ length b

@@ -1,16 +1,11 @@
--- Rows 12 and 14 as the code takes them: the start of a book in one test, its entries in two.
-use mathlib.Core.Bool.{Bool, _&&_}
+-- Row 14 as the code takes it: a book's entries in two tests.
+use mathlib.Core.Bool.{Bool}
 use mathlib.Core.List.{List}
 use Prim.Native.Nat.{ℕ, zero, suc, max, min, _+_, _*_}
 use lib.Dec.{leb}
-use lib.ListN.{length}
 use Rattle.automaton.specs.Below.{allBelow}
-use Rattle.definitions.specs.Bytes.{byte, hasMark, hasVersion1}
+use Rattle.definitions.specs.Bytes.{byte}
 use Rattle.definitions.specs.Book.{events, width, states}
-
--- "book under 12 bytes, mark or version"
-abbrev pub isMarked : List ℕ → Bool
-isMarked b = leb 12 (length b) && hasMark 0x42 0x4F 0x4B b && hasVersion1 b
 
 -- the greatest of the first k entries, counted through all rows
 abbrev pub greatest : List ℕ → ℕ → ℕ

@@ -15,8 +15,9 @@ use Rattle.definitions.specs.Bytes.{byte, hasMark, hasVersion1}
 use Rattle.definitions.specs.Policy.{events, fields, variables, rules, count, requests, width, exactLength, rule, mask, decision, ge, lt, change, eventChange}
 use Rattle.definitions.specs.Valuation.{valuations}
 use Rattle.definitions.specs.Book as B
-use Rattle.definitions.specs.Refusal.{rangesHold, countInRange, countsHold, rulePasses, allRules, maskHolds, ruleMasksHold, masksHold, testHolds, ruleHolds, eventChangeHolds, eventHolds, valuesHold, row10, row9, row8, row7, row6, row5, row4, row3, fileRefusal, situations, row11, policyRefusal, countHolds, headerHolds, layoutHolds, entryHolds, rowHolds, entriesHold, row14, row13, bookRefusal}
+use Rattle.definitions.specs.Refusal.{rangesHold, countInRange, countsHold, rulePasses, allRules, maskHolds, ruleMasksHold, masksHold, testHolds, ruleHolds, eventChangeHolds, eventHolds, valuesHold, fileChecks, fileRefusal, situations, row11, policyRefusal, countHolds, headerHolds, layoutHolds, entryHolds, rowHolds, entriesHold, bookChecks, bookRefusal}
 use Rattle.definitions.proofs.Tests.{both-true, judge-zero, then-judge-zero, within-true, mark-true, version-true}
+use Rattle.definitions.proofs.CheckLists.{PassedBefore, testOf, row-passes, rows-from}
 use Rattle.definitions.proofs.Radix.{product-some}
 use Rattle.definitions.proofs.Requests.{some-request}
 use Rattle.definitions.proofs.Valuations.{some-valuation}
@@ -92,44 +93,36 @@ module _ (p : List ℕ) where
 
   -- ---- what acceptance gives
   pub file-accepted : fileRefusal p ≡ 0 → FileAccepted p
-  unfolding fileRefusal row3 row4 row5 row6 row7 row8 row9 row10
+  unfolding fileRefusal
   file-accepted e =
-      let r2 = judge-zero 1 (leb 9 (length p)) (row3 p) .0 e in
-      let r3 = judge-zero 2 (hasMark 0x50 0x4F 0x4C p) (row4 p) .0 (r2 .1) in
-      let r4 = judge-zero 3 (hasVersion1 p) (row5 p) .0 (r3 .1) in
-      let r5 = judge-zero 4 (rangesHold p) (row6 p) .0 (r4 .1) in
-      let r6 = judge-zero 5 (eqb (length p) (exactLength p)) (row7 p) .0 (r5 .1) in
-      let r7 = judge-zero 6 (countsHold p) (row8 p) .0 (r6 .1) in
-      let r8 = judge-zero 7 (masksHold p) (row9 p) .0 (r7 .1) in
-      let r9 = judge-zero 8 (valuesHold p) (row10 p) .0 (r8 .1) in
-      let r10 = judge-zero 9 (leb (valuations p) 64) 0 .0 (r9 .1) in
-      let ranges = ranges-true (r5 .0) in
-      let counts = counts-true (r7 .0) in
+      let passes : (n : ℕ) → testOf n fileChecks p ≡ true = λ n. row-passes p n fileChecks refl e in
+      let ranges = ranges-true (passes 5) in
+      let counts = counts-true (passes 7) in
       record {
-        long = leb-true 9 (length p) (r2 .0);
-        mark = mark-true p 0x50 0x4F 0x4C .0 (r3 .0);
-        version = version-true p .0 (r4 .0);
+        long = leb-true 9 (length p) (passes 2);
+        mark = mark-true p 0x50 0x4F 0x4C .0 (passes 3);
+        version = version-true p .0 (passes 4);
         eventsMost = ranges .0;
         fieldsSome = ranges .1;
         fieldsMost = ranges .2;
         variablesMost = ranges .3;
         rulesSome = ranges .4;
         rulesMost = ranges .5;
-        exact = eqb-true (length p) (exactLength p) (r6 .0);
+        exact = eqb-true (length p) (exactLength p) (passes 6);
         countSome = λ f l. counts .0 f l .0;
         countMost = λ f l. counts .0 f l .1;
         requestsSome = some-request p (λ f l. counts .0 f l .0);
         requestsMost = counts .1;
         widthMost = omega (arith, ranges .0, counts .1);
-        maskSome = λ k f lk lf. masks-true (r8 .0) k f lk lf .0;
-        maskMost = λ k f lk lf. masks-true (r8 .0) k f lk lf .1;
-        decisionMost = λ k l. rule-true (r9 .0) k l .0;
-        geMost = λ k j lk lj. rule-true (r9 .0) k lk .1 j lj .0;
-        ltMost = λ k j lk lj. rule-true (r9 .0) k lk .1 j lj .1;
-        changeMost = λ k j lk lj. rule-true (r9 .0) k lk .1 j lj .2;
-        eventChangeMost = event-true (r9 .0);
+        maskSome = λ k f lk lf. masks-true (passes 8) k f lk lf .0;
+        maskMost = λ k f lk lf. masks-true (passes 8) k f lk lf .1;
+        decisionMost = λ k l. rule-true (passes 9) k l .0;
+        geMost = λ k j lk lj. rule-true (passes 9) k lk .1 j lj .0;
+        ltMost = λ k j lk lj. rule-true (passes 9) k lk .1 j lj .1;
+        changeMost = λ k j lk lj. rule-true (passes 9) k lk .1 j lj .2;
+        eventChangeMost = event-true (passes 9);
         valuationsSome = some-valuation p;
-        valuationsMost = leb-true (valuations p) 64 (r10 .0);
+        valuationsMost = leb-true (valuations p) 64 (passes 10);
       }
 
   pub policy-accepted : policyRefusal p ≡ 0 → (fileRefusal p ≡ 0) × (length (situations p) ≤ 127)
@@ -226,29 +219,27 @@ module _ (b : List ℕ) where
 
   -- ---- what passing gives, and what gives it
   passed : bookRefusal b ≡ 0 → BookPassed b
-  unfolding bookRefusal row13 row14
+  unfolding bookRefusal
   passed e =
-      let r12 = judge-zero 11 (leb 12 (length b) && hasMark 0x42 0x4F 0x4B b && hasVersion1 b) (row13 b) .0 e in
-      let r13 = judge-zero 12 (layoutHolds b) (row14 b) .0 (r12 .1) in
-      let r14 = judge-zero 13 (entriesHold b) 0 .0 (r13 .1) in
-      let head = and-true _ _ (r12 .0) in
+      let passes : (n : ℕ) → testOf n bookChecks b ≡ true = λ n. row-passes b n bookChecks refl e in
+      let head = and-true _ _ (passes 12) in
       let begins = and-true _ _ (head .0) in
       record {
         long = leb-true 12 (length b) (begins .0);
         mark = mark-true b 0x42 0x4F 0x4B .0 (begins .1);
         version = version-true b .0 (head .1);
-        layout = layout-true (r13 .0);
-        entryMost = λ s c some most l. entries-true (r14 .0) s c some most l .0;
-        eventEntrySome = λ s c some most l. entries-true (r14 .0) s c some most (omega arith) .1 l;
+        layout = layout-true (passes 13);
+        entryMost = λ s c some most l. entries-true (passes 14) s c some most l .0;
+        eventEntrySome = λ s c some most l. entries-true (passes 14) s c some most (omega arith) .1 l;
       }
 
   passes : BookPassed b → bookRefusal b ≡ 0
-  unfolding bookRefusal row13 row14
+  unfolding bookRefusal
   passes h =
       let begins = both-true (both-true (le-leb 12 (length b) (h .long)) (mark-true b 0x42 0x4F 0x4B .1 (h .mark))) (version-true b .1 (h .version)) in
-      let r14 = judge-zero 13 (entriesHold b) 0 .1 (entries-hold (h .entryMost) (h .eventEntrySome), refl) in
-      let r13 = judge-zero 12 (layoutHolds b) (row14 b) .1 (layout-holds (h .layout), r14) in
-      judge-zero 11 (leb 12 (length b) && hasMark 0x42 0x4F 0x4B b && hasVersion1 b) (row13 b) .1 (begins, r13)
+      let each : PassedBefore 0 bookChecks b =
+      record { passed = (((tt, begins), layout-holds (h .layout)), entries-hold (h .entryMost) (h .eventEntrySome)) } in
+      rows-from each
 
   pub book-passed : (bookRefusal b ≡ 0) ↔ BookPassed b
   book-passed = (passed, passes)

@@ -1,5 +1,6 @@
 pub mod Cases
 pub mod Tests
+pub mod CheckLists
 pub mod Answers
 pub mod Written
 pub mod Products

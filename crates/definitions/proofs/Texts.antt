@@ -10,13 +10,14 @@ use lib.Dec.{eqb, eqb·suc-zero}
 use lib.ListN.{length, take}
 use lib.Seq.{take-all, length-take-le, getD-take}
 use borrow.Author.Tests.{le-leb, ne-eqb}
-use Rattle.definitions.specs.Answer.{judge}
+use Rattle.definitions.specs.Answer.{judge, refusalBy}
 use Rattle.definitions.specs.Bytes.{hasMark, hasVersion1, byte}
 use Rattle.definitions.specs.Policy.{events, fields, variables, rules, ruleSize, exactLength}
-use Rattle.definitions.specs.Refusal.{fileRefusal, policyRefusal, row3, row4, row5, row6, rangesHold}
+use Rattle.definitions.specs.Refusal.{rangesHold, fileChecks, fileRefusal, policyRefusal}
 use Rattle.definitions.specs.Build.{bookOf}
 use Rattle.definitions.specs.Decimal.{decimal}
 use Rattle.definitions.specs.Shelf.{line, refusedWord, bookText, policyText}
+use Rattle.definitions.proofs.CheckLists.{rowsFrom}
 use Rattle.definitions.proofs.Accepted.{ranges-true, file-accepted}
 
 exact-short : (p : List ℕ) → events p ≤ 8 → fields p ≤ 4 → variables p ≤ 4 → rules p ≤ 32 → exactLength p < 750
@@ -25,8 +26,7 @@ exact-short p E F P R =
     omega (arith, mul-le-mul R size, mul-le-mul E P)
 
 -- a file of 750 bytes or more that row 5 lets pass is turned down by row 6
-too-long : (p : List ℕ) → 750 ≤ length p → rangesHold p ≡ true → row6 p ≡ 6
-unfolding row6
+too-long : (p : List ℕ) → 750 ≤ length p → rangesHold p ≡ true → refusalBy (rowsFrom 6 fileChecks) p ≡ 6
 too-long p l e =
     let r = ranges-true p e in
     let short = exact-short p (r .0) (r .2) (r .3) (r .5) in
@@ -50,11 +50,11 @@ module _ (k : ℕ) (enough : 750 ≤ k) (p : List ℕ) where
   same-version = rw (same-byte 3 (omega arith), same-byte 4 (omega arith)) refl
 
   longer : k < length p → fileRefusal (take k p) ≡ fileRefusal p
-  unfolding fileRefusal row3 row4 row5
+  unfolding fileRefusal
   longer l =
       let n : length (take k p) ≡ k = length-take-le k p (omega arith) in
       let here : 750 ≤ length (take k p) = omega arith in
-      let late : rangesHold p ≡ true → row6 (take k p) ≡ row6 p =
+      let late : rangesHold p ≡ true → refusalBy (rowsFrom 6 fileChecks) (take k p) ≡ refusalBy (rowsFrom 6 fileChecks) p =
       λ e. too-long (take k p) here (same-ranges ∙ e) ∙ sym (too-long p (omega arith) e) in
       rw (le-leb 9 (length (take k p)) (omega arith), le-leb 9 (length p) (omega arith), same-mark 0x50 0x4F 0x4C, same-version, same-ranges)
       (judge-as 3 (hasMark 0x50 0x4F 0x4C p) _ _ (λ _. judge-as 4 (hasVersion1 p) _ _ (λ _. judge-as 5 (rangesHold p) _ _ late)))

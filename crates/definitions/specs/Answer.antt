@@ -1,6 +1,6 @@
 -- What every entry point has in common: rows judged in order, an answer that is a refusal's number or a value, and the lent buffers afterwards.
 use mathlib.Core.Bool.{Bool, cond}
-use mathlib.Core.List.{List, [], _++_}
+use mathlib.Core.List.{List, [], _∷_, _++_}
 use mathlib.Core.Option.{Option, none, some}
 use Prim.Native.Nat.{ℕ, zero, suc}
 use lib.Dec.{eqb}
@@ -10,6 +10,15 @@ use Rattle.automaton.specs.History.{History}
 -- "The lowest row that fits wins": a row's number where its test fails, and else what the rows after it say; 0 where no row fits
 abbrev pub judge : ℕ → Bool → ℕ → ℕ
 judge number passes later = cond passes later number
+
+-- a row of "Where input is turned down": its number, and the test that the bytes pass where the row does not fit
+pub data Check : Type 0 where
+  row : ℕ → (List ℕ → Bool) → Check
+
+-- rows judged in order: the number of the first whose test fails, 0 where every test passes. A test is computed only where those before it pass
+abbrev pub refusalBy : List Check → List ℕ → ℕ
+refusalBy [] bytes = 0
+refusalBy (row number passes ∷ later) bytes = let rest = refusalBy later bytes in judge number (passes bytes) rest
 
 -- several rows judged already, and then those after them
 abbrev pub thenJudge : ℕ → ℕ → ℕ

@@ -1,13 +1,13 @@
 -- "Where input is turned down": the number of "the lowest row that fits", 0 if none does. Each row is judged only where those before it do not fit.
 use mathlib.Core.Path.{_≡_}
 use mathlib.Core.Bool.{Bool, cond, _&&_, _||_}
-use mathlib.Core.List.{List}
+use mathlib.Core.List.{List, [], _∷_}
 use Prim.Native.Nat.{ℕ, suc, _+_, _*_, _^_}
 use lib.Dec.{leb, ltb, eqb}
 use lib.ListN.{length}
 use Rattle.automaton.specs.Below.{allBelow, sameList}
 use Rattle.automaton.specs.Explore.{Reached, reached}
-use Rattle.definitions.specs.Answer.{judge, thenJudge}
+use Rattle.definitions.specs.Answer.{judge, thenJudge, Check, row, refusalBy}
 use Rattle.definitions.specs.Bytes.{hasMark, hasVersion1, within}
 use Rattle.definitions.specs.Policy.{events, fields, variables, rules, count, requests, exactLength, rule, mask, decision, ge, lt, change, eventChange}
 use Rattle.definitions.specs.Valuation.{valuations}
@@ -16,8 +16,14 @@ use Rattle.definitions.specs.Book as B
 
 -- ---- policies: rows 2 to 11
 
+abbrev pub hasHead : List ℕ → Bool
+hasHead p = leb 9 (length p)
+
 abbrev pub rangesHold : List ℕ → Bool
 rangesHold p = leb (events p) 8 && within 1 (fields p) 4 && leb (variables p) 4 && within 1 (rules p) 32
+
+abbrev pub lengthHolds : List ℕ → Bool
+lengthHolds p = eqb (length p) (exactLength p)
 
 abbrev pub countInRange : List ℕ → ℕ → Bool
 countInRange p f = within 1 (count p f) 16
@@ -58,49 +64,39 @@ eventHolds p e = allBelow (variables p) (eventChangeHolds p e)
 abbrev pub valuesHold : List ℕ → Bool
 valuesHold p = allRules p (ruleHolds p) && allBelow (events p) (eventHolds p)
 
--- "over 64 valuations"
-unfoldable pub row10 : List ℕ → ℕ
-row10 p = judge 10 (leb (valuations p) 64) 0
+abbrev pub valuationsHold : List ℕ → Bool
+valuationsHold p = leb (valuations p) 64
 
--- "a decision, test or change outside its values"
-unfoldable pub row9 : List ℕ → ℕ
-unfolding row10
-row9 p = judge 9 (valuesHold p) (row10 p)
+-- the rows that judge what the file holds, once its length is right
+abbrev pub contentChecks : List Check
+contentChecks =
+    -- "a value count outside 1 to 16, or Q over 64"
+    row 7 countsHold
+    -- "a mask"
+    ∷ row 8 masksHold
+    -- "a decision, test or change outside its values"
+    ∷ row 9 valuesHold
+    -- "over 64 valuations"
+    ∷ row 10 valuationsHold
+    ∷ []
 
--- "a mask"
-unfoldable pub row8 : List ℕ → ℕ
-unfolding row9
-row8 p = judge 8 (masksHold p) (row9 p)
+-- the rows that judge the file itself
+abbrev pub fileChecks : List Check
+fileChecks =
+    -- "policy under 9 bytes"
+    row 2 hasHead
+    -- "mark" POL
+    ∷ row 3 (hasMark 0x50 0x4F 0x4C)
+    -- "version"
+    ∷ row 4 hasVersion1
+    -- "E, F, P or R outside its range"
+    ∷ row 5 rangesHold
+    -- "length"
+    ∷ row 6 lengthHolds
+    ∷ contentChecks
 
--- "a value count outside 1 to 16, or Q over 64"
-unfoldable pub row7 : List ℕ → ℕ
-unfolding row8
-row7 p = judge 7 (countsHold p) (row8 p)
-
--- "length"
-unfoldable pub row6 : List ℕ → ℕ
-unfolding row7
-row6 p = judge 6 (eqb (length p) (exactLength p)) (row7 p)
-
--- "E, F, P or R outside its range"
-unfoldable pub row5 : List ℕ → ℕ
-unfolding row6
-row5 p = judge 5 (rangesHold p) (row6 p)
-
--- "version"
-unfoldable pub row4 : List ℕ → ℕ
-unfolding row5
-row4 p = judge 4 (hasVersion1 p) (row5 p)
-
--- "mark POL"
-unfoldable pub row3 : List ℕ → ℕ
-unfolding row4
-row3 p = judge 3 (hasMark 0x50 0x4F 0x4C p) (row4 p)
-
--- "policy under 9 bytes", and every row up to 10: what the file itself is turned down for
 unfoldable pub fileRefusal : List ℕ → ℕ
-unfolding row3
-fileRefusal p = judge 2 (leb 9 (length p)) (row3 p)
+fileRefusal p = refusalBy fileChecks p
 
 -- the situations reached, "before joining alike ones", in the order of their earliest history: all of them if they are at most 127
 unfoldable pub situations : List ℕ → List Reached
@@ -120,6 +116,10 @@ abbrev pub Accepted : List ℕ → Type 0
 Accepted p = policyRefusal p ≡ 0
 
 -- ---- books: rows 12 to 14
+
+-- the length of the header, the mark BOK and the version
+abbrev pub isMarked : List ℕ → Bool
+isMarked b = leb 12 (length b) && hasMark 0x42 0x4F 0x4B b && hasVersion1 b
 
 -- "a present count outside its range; an absent count not 0"
 abbrev pub countHolds : List ℕ → ℕ → Bool
@@ -144,19 +144,18 @@ rowHolds b i = allBelow (B.width b) (entryHolds b (suc i))
 abbrev pub entriesHold : List ℕ → Bool
 entriesHold b = allBelow (B.states b) (rowHolds b)
 
--- "an entry above n, or 0 for an event"
-unfoldable pub row14 : List ℕ → ℕ
-row14 b = judge 14 (entriesHold b) 0
+abbrev pub bookChecks : List Check
+bookChecks =
+    -- "book under 12 bytes, mark or version"
+    row 12 isMarked
+    -- "E, F, a present count, Q or n outside its range; an absent count not 0; length not 12 + n × w"
+    ∷ row 13 layoutHolds
+    -- "an entry above n, or 0 for an event"
+    ∷ row 14 entriesHold
+    ∷ []
 
--- "E, F, a present count, Q or n outside its range; an absent count not 0; length not 12 + n × w"
-unfoldable pub row13 : List ℕ → ℕ
-unfolding row14
-row13 b = judge 13 (layoutHolds b) (row14 b)
-
--- "book under 12 bytes, mark or version", and every row after it
 unfoldable pub bookRefusal : List ℕ → ℕ
-unfolding row13
-bookRefusal b = judge 12 (leb 12 (length b) && hasMark 0x42 0x4F 0x4B b && hasVersion1 b) (row13 b)
+bookRefusal b = refusalBy bookChecks b
 
 -- "the two frames differ"
 unfoldable pub row15 : List ℕ → List ℕ → ℕ

@@ -1,4 +1,5 @@
 -- How large the numbers of document 01's answers are: what makes each fit into its bits of a packed number.
+use mathlib.Core.Path.{refl}
 use mathlib.Core.Bool.{Bool, true, false, _&&_}
 use mathlib.Core.List.{List}
 use Prim.Native.Nat.{ℕ, _≤_}
@@ -8,14 +9,12 @@ use lib.Dec.{leb, eqb}
 use lib.ListN.{length}
 use Rattle.automaton.specs.Below.{sameList}
 use Rattle.definitions.specs.Answer.{judge, thenJudge}
-use Rattle.definitions.specs.Bytes.{hasMark, hasVersion1}
-use Rattle.definitions.specs.Policy.{exactLength}
-use Rattle.definitions.specs.Valuation.{valuations}
 use Rattle.definitions.specs.Book.{frame}
-use Rattle.definitions.specs.Refusal.{rangesHold, countsHold, masksHold, valuesHold, row10, row9, row8, row7, row6, row5, row4, row3, fileRefusal, situations, row11, policyRefusal, Accepted, layoutHolds, entriesHold, row14, row13, bookRefusal, row15}
+use Rattle.definitions.specs.Refusal.{fileChecks, fileRefusal, situations, row11, policyRefusal, Accepted, bookChecks, bookRefusal, row15}
 use Rattle.definitions.specs.Build.{bookOf, buildRefusal}
 use Rattle.definitions.specs.Verdict.{verdictRefusal}
 use Rattle.definitions.specs.Compare.{compareRefusal}
+use Rattle.definitions.proofs.CheckLists.{refusal-most}
 use Rattle.definitions.proofs.Accepted.{book-passed}
 use Rattle.definitions.proofs.Demands.{demand2}
 
@@ -35,17 +34,8 @@ then-small : (first later : ℕ) → first ≤ 15 → later ≤ 15 → thenJudge
 then-small first later l m = judge-small first (eqb first 0) later l m
 
 file-refusal-small : (p : List ℕ) → fileRefusal p ≤ 15
-unfolding fileRefusal row3 row4 row5 row6 row7 row8 row9 row10
-file-refusal-small p =
-    judge-small 2 (leb 9 (length p)) (row3 p) (omega arith)
-    (judge-small 3 (hasMark 0x50 0x4F 0x4C p) (row4 p) (omega arith)
-    (judge-small 4 (hasVersion1 p) (row5 p) (omega arith)
-    (judge-small 5 (rangesHold p) (row6 p) (omega arith)
-    (judge-small 6 (eqb (length p) (exactLength p)) (row7 p) (omega arith)
-    (judge-small 7 (countsHold p) (row8 p) (omega arith)
-    (judge-small 8 (masksHold p) (row9 p) (omega arith)
-    (judge-small 9 (valuesHold p) (row10 p) (omega arith)
-    (judge-small 10 (leb (valuations p) 64) 0 (omega arith) (omega arith)))))))))
+unfolding fileRefusal
+file-refusal-small p = refusal-most p 15 fileChecks refl
 
 policy-refusal-small : (p : List ℕ) → policyRefusal p ≤ 15
 unfolding policyRefusal row11
@@ -53,11 +43,8 @@ policy-refusal-small p =
     then-small (fileRefusal p) (row11 p) (file-refusal-small p) (judge-small 11 (leb (length (situations p)) 127) 0 (omega arith) (omega arith))
 
 book-refusal-small : (b : List ℕ) → bookRefusal b ≤ 15
-unfolding bookRefusal row13 row14
-book-refusal-small b =
-    judge-small 12 (leb 12 (length b) && hasMark 0x42 0x4F 0x4B b && hasVersion1 b) (row13 b) (omega arith)
-    (judge-small 13 (layoutHolds b) (row14 b) (omega arith)
-    (judge-small 14 (entriesHold b) 0 (omega arith) (omega arith)))
+unfolding bookRefusal
+book-refusal-small b = refusal-most b 15 bookChecks refl
 
 pub build-refusal-small : (p buffer : List ℕ) → buildRefusal p buffer ≤ 15
 unfolding buildRefusal

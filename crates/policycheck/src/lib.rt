@@ -1,18 +1,17 @@
-// Rows 2 to 10: what turns a policy file down.
+// Rows 2 to 10: what a policy file is refused for.
 mod counts;
 mod layout;
 mod masks;
 mod values;
 
 ghost use mathlib.Core.Path.{_≡_};
-ghost use lib.Dec.{leb};
-ghost use Rattle.definitions.specs.Refusal.{fileRefusal, row7};
-ghost use Rattle.definitions.specs.Valuation.{valuations};
+ghost use Rattle.definitions.specs.Answer.{refusalBy};
+ghost use Rattle.definitions.specs.Refusal.{contentChecks, fileRefusal, valuationsHold};
 ghost use Rattle.policy.specs.Sized.{Sized, TableOf};
 use policy::header;
 use policy::valuation;
 
-// The number of the lowest row from 2 to 10 that turns the file down; 0 if none does.
+// The number of the lowest row from 2 to 10 that refuses the file; 0 if none does.
 pub fn file_refusal(policy: &[u8]) -> usize
     ensures { λ r. ⌜ r ≡ fileRefusal (now (policy .entry)) ⌝ }
 {
@@ -34,10 +33,10 @@ pub fn file_refusal(policy: &[u8]) -> usize
     contents_refusal(policy)
 }
 
-// Rows 7 to 10, of a file whose size the rows before them have settled.
+// Rows 7 to 10, of a file whose length is right.
 fn contents_refusal(policy: &[u8]) -> usize
     requires { ⌜ Sized (now policy) ⌝ }
-    ensures { λ r. ⌜ r ≡ row7 (now (policy .entry)) ⌝ }
+    ensures { λ r. ⌜ r ≡ refusalBy contentChecks (now (policy .entry)) ⌝ }
 {
     if !counts::counts_hold(policy) {
         return 7;
@@ -59,7 +58,7 @@ fn contents_refusal(policy: &[u8]) -> usize
 // Row 10.
 fn valuations_hold(policy: &[u8], table: &[u8]) -> bool
     requires { ⌜ TableOf (now policy) (now table) ⌝ }
-    ensures { λ r. ⌜ r ≡ leb (valuations (now (policy .entry))) 64 ⌝ }
+    ensures { λ r. ⌜ r ≡ valuationsHold (now (policy .entry)) ⌝ }
 {
     valuation::valuations(policy, table) <= 64
 }

@@ -1,56 +1,31 @@
--- `contents_refusal` meets its contract. Each row that has passed leaves the number to the rows after it.
-use mathlib.Core.Path.{_≡_, refl}
-use mathlib.Core.Bool.{true}
-use Prim.Native.Nat.{ℕ}
-use lib.Dec.{leb}
+-- `contents_refusal` meets its contract: the rows are judged in order.
+use mathlib.Core.Path.{sym}
 use borrow.Author.Needs.{needs}
-use Rattle.definitions.specs.Refusal.{row7, row8, row9, row10, countsHold, masksHold, valuesHold}
-use Rattle.definitions.specs.Valuation.{valuations}
+use Rattle.definitions.specs.Refusal.{contentChecks}
 use Rattle.definitions.proofs.Tests.{failed, held}
+use Rattle.definitions.proofs.CheckLists.{PassedBefore, row-refuses, rows-from}
 use Rattle.policy.proofs.Parts.{lent-table}
-use Rattle.policycheck.proofs.Rows.{stops, goes-on}
 use Rattle.policycheck.proofs.contents_refusal.Statement.{statement}
 use Rattle.policycheck.proofs.contents_refusal.Tie as tie
 
-counts-pass : (c : tie.Else1)
-    → let start = c .before .before .before in
-    countsHold (start .args .policy .now) ≡ true
-counts-pass c = held _ _ (c .before .counts-hold .ensures) (c .if1 .left)
+-- ---- the rows that have passed where the code goes on
+past7 : (c : tie.Else1) → PassedBefore 8 contentChecks (c .before .before .before .args .policy .now)
+past7 c = record { passed = (tt, held _ _ (c .before .counts-hold .ensures) (c .if1 .left)) }
 
-after7 : (c : tie.Else1) (r : ℕ)
-    → let start = c .before .before .before in
-    r ≡ row8 (start .args .policy .now) → r ≡ row7 (start .args .policy .now)
-unfolding row7
-after7 c r e =
-    let start = c .before .before .before in
-    goes-on 7 (countsHold (start .args .policy .now)) (row8 (start .args .policy .now)) r (counts-pass c) e
+past8 : (c : tie.Else2) → PassedBefore 9 contentChecks (c .before .before .before .before .before .before .before .args .policy .now)
+past8 c = record { passed = (past7 (c .before .before .before .before) .passed, held _ _ (c .before .masks-hold .ensures) (c .if2 .left)) }
 
-after8 : (c : tie.Else2) (r : ℕ)
-    → let start = c .before .before .before .before .before .before .before in
-    r ≡ row9 (start .args .policy .now) → r ≡ row7 (start .args .policy .now)
-unfolding row8
-after8 c r e =
-    let start = c .before .before .before .before .before .before .before in
-    after7 (c .before .before .before .before) r
-    (goes-on 8 (masksHold (start .args .policy .now)) (row9 (start .args .policy .now)) r (held _ _ (c .before .masks-hold .ensures) (c .if2 .left)) e)
+past9 : (c : tie.Else3) → PassedBefore 10 contentChecks (c .before .before .before .before .before .before .before .before .before .args .policy .now)
+past9 c = record { passed = (past8 (c .before .before) .passed, held _ _ (c .before .values-hold .ensures) (c .if3 .left)) }
 
-after9 : (c : tie.Else3) (r : ℕ)
-    → let start = c .before .before .before .before .before .before .before .before .before in
-    r ≡ row10 (start .args .policy .now) → r ≡ row7 (start .args .policy .now)
-unfolding row9
-after9 c r e =
-    let start = c .before .before .before .before .before .before .before .before .before in
-    after8 (c .before .before) r
-    (goes-on 9 (valuesHold (start .args .policy .now)) (row10 (start .args .policy .now)) r (held _ _ (c .before .values-hold .ensures) (c .if3 .left)) e)
+past10 : (c : tie.Else4) → PassedBefore 0 contentChecks (c .before .before .before .before .before .before .before .before .before .before .before .args .policy .now)
+past10 c = record { passed = (past9 (c .before .before) .passed, held _ _ (c .before .valuations-hold .ensures) (c .if4 .left)) }
 
 counts-hold-requires : tie.Need-counts-hold-requires
 counts-hold-requires c κs = search needs
 
 returns : tie.Need-returns
-unfolding row7
-returns c =
-    let start = c .before .before .before in
-    stops 7 (countsHold (start .args .policy .now)) (row8 (start .args .policy .now)) (failed _ _ (c .before .counts-hold .ensures) (c .if1 .taken))
+returns c = simp (failed _ _ (c .before .counts-hold .ensures) (c .if1 .taken))
 
 fields-requires : tie.Need-fields-requires
 fields-requires c κs = search needs
@@ -70,14 +45,10 @@ part-table-end c = search needs
 masks-hold-requires : tie.Need-masks-hold-requires
 masks-hold-requires c κs =
     let start = c .before .before .before .before .before in
-    (lent-table (start .args .policy .now) (c .before .fields .result) (start .pre) (c .before .fields .ensures .0), counts-pass (c .before .before))
+    (lent-table (start .args .policy .now) (c .before .fields .result) (start .pre) (c .before .fields .ensures .0), past7 (c .before .before) .passed .1)
 
 returns-2 : tie.Need-returns-2
-unfolding row8
-returns-2 c =
-    let start = c .before .before .before .before .before .before .before in
-    after7 (c .before .before .before .before) 8
-    (stops 8 (masksHold (start .args .policy .now)) (row9 (start .args .policy .now)) (failed _ _ (c .before .masks-hold .ensures) (c .if2 .taken)))
+returns-2 c = row-refuses (past7 (c .before .before .before .before)) (failed _ _ (c .before .masks-hold .ensures) (c .if2 .taken))
 
 values-hold-requires : tie.Need-values-hold-requires
 values-hold-requires c κs =
@@ -86,11 +57,7 @@ values-hold-requires c κs =
     lent-table (start .args .policy .now) (fields .result) (start .pre) (fields .ensures .0)
 
 returns-3 : tie.Need-returns-3
-unfolding row9
-returns-3 c =
-    let start = c .before .before .before .before .before .before .before .before .before in
-    after8 (c .before .before) 9
-    (stops 9 (valuesHold (start .args .policy .now)) (row10 (start .args .policy .now)) (failed _ _ (c .before .values-hold .ensures) (c .if3 .taken)))
+returns-3 c = row-refuses (past8 (c .before .before)) (failed _ _ (c .before .values-hold .ensures) (c .if3 .taken))
 
 valuations-hold-requires : tie.Need-valuations-hold-requires
 valuations-hold-requires c κs =
@@ -99,18 +66,10 @@ valuations-hold-requires c κs =
     lent-table (start .args .policy .now) (fields .result) (start .pre) (fields .ensures .0)
 
 returns-4 : tie.Need-returns-4
-unfolding row10
-returns-4 c =
-    let start = c .before .before .before .before .before .before .before .before .before .before .before in
-    after9 (c .before .before) 10
-    (stops 10 (leb (valuations (start .args .policy .now)) 64) 0 (failed _ _ (c .before .valuations-hold .ensures) (c .if4 .taken)))
+returns-4 c = row-refuses (past9 (c .before .before)) (failed _ _ (c .before .valuations-hold .ensures) (c .if4 .taken))
 
 returns-5 : tie.Need-returns-5
-unfolding row10
-returns-5 c =
-    let start = c .before .before .before .before .before .before .before .before .before .before .before in
-    after9 (c .before .before) 0
-    (goes-on 10 (leb (valuations (start .args .policy .now)) 64) 0 0 (held _ _ (c .before .valuations-hold .ensures) (c .if4 .left)) refl)
+returns-5 c = sym (rows-from (past10 c))
 
 pub contents-refusal-spec : {M : Type 1} → statement M
 contents-refusal-spec =
