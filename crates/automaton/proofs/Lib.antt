@@ -25,3 +25,4 @@ pub mod Separating
 pub mod Comparing
 pub mod Pairs
 pub mod Cases
+pub mod ByteWords

@@ -11,3 +11,4 @@ pub mod StateList
 pub mod Parents
 pub mod Labels
 pub mod PairQueue
+pub mod ByteWords

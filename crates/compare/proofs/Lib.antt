@@ -1,3 +1,3 @@
 -- Laws that belong to no one function.
-pub mod Answering
-pub mod Returned
+pub mod CompareRefusals
+pub mod ComparedAnswer

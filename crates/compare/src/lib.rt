@@ -2,20 +2,18 @@
 ghost use mathlib.Core.Path.{_≡_};
 ghost use Prim.Native.Nat.{_≤_};
 ghost use lib.ListN.{length};
-ghost use Rattle.definitions.specs.Book as Book;
 ghost use Rattle.definitions.specs.Answer.{given, written, historyBytes};
 ghost use Rattle.definitions.specs.Compare.{comparison, compareRefusal, compareAnswer, compareBuffer};
-ghost use Rattle.compare.specs.Answer.{comparedAnswer};
-ghost use Rattle.pairs.specs.Search.{Ready, Traced, differenceAt, spotted, Writable};
+ghost use Rattle.compare.specs.ComparedAnswer.{comparedAnswer};
+ghost use Rattle.comparepairs.specs.PairSearch.{BooksReady, Traced, differenceAt, spotted, Writable};
 use book::same_frame;
 use book::states;
-use book::width;
 use bookcheck::refusal;
-use pairs::Spot;
-use pairs::first_difference;
+use comparepairs::Spot;
+use comparepairs::first_difference;
 use search::write_history;
 
-// What comparing gives: the number of the row that turns the call down, that the same histories are possible in both books, or the length of the
+// What comparing returns: the number of the row that refuses the call, that the same histories are possible in both books, or the length of the
 // earliest history that is possible in just one, which is written to the buffer.
 pub enum Compared {
     Refused(usize),
@@ -23,7 +21,7 @@ pub enum Compared {
     Differ(usize),
 }
 
-// Compares two books. Bytes of the buffer after the history stay, and on Refused or Same all of them.
+// Compares two books. Bytes of the buffer after the history are unchanged, and on Refused or Same all of them.
 pub fn compare(first: &[u8], second: &[u8], history: &mut [u8]) -> Compared
     ensures { λ r. ⌜ comparedAnswer r (now (history .exit)) ≡ compareAnswer (now (first .entry)) (now (second .entry)) (now (history .entry)) ⌝ }
     ensures { λ r. ⌜ now (history .exit) ≡ compareBuffer (now (first .entry)) (now (second .entry)) (now (history .entry)) ⌝ }
@@ -35,7 +33,7 @@ pub fn compare(first: &[u8], second: &[u8], history: &mut [u8]) -> Compared
     compare_passed(first, second, history)
 }
 
-// The number of the lowest row that turns the call down, 0 if none does: row 1, rows 12 to 14 of the first book, of the second, row 15.
+// The number of the lowest row that refuses the call, 0 if none does: row 1, rows 12 to 14 of the first book, of the second, row 15.
 fn refused_by(first: &[u8], second: &[u8], history: &[u8]) -> usize
     ensures { λ r. ⌜ r ≡ compareRefusal (now (first .entry)) (now (second .entry)) (now (history .entry)) ⌝ }
 {
@@ -56,7 +54,7 @@ fn refused_by(first: &[u8], second: &[u8], history: &[u8]) -> usize
     0
 }
 
-// Two books that no row turns down. Small arrays do for books of few states, and are sooner cleared.
+// Two books that no row refuses. Small arrays do for books of few states, and are sooner cleared.
 fn compare_passed(first: &[u8], second: &[u8], history: &mut [u8]) -> Compared
     requires { ⌜ compareRefusal (now first) (now second) (now history) ≡ 0 ⌝ }
     ensures { λ r. ⌜ comparedAnswer r (now (history .exit)) ≡ given (comparison (now (first .entry)) (now (second .entry))) ⌝ }
@@ -64,61 +62,34 @@ fn compare_passed(first: &[u8], second: &[u8], history: &mut [u8]) -> Compared
 {
     let numbers = states(first) + states(second) + 2;
     if numbers <= 32 {
-        let mut pairs = [0u8; 64];
-        let mut trail = [0u8; 64];
+        let mut queue = [0u8; 128];
         let mut label = [0u8; 32];
-        return compare_in(
-            first,
-            second,
-            &mut pairs,
-            &mut trail,
-            &mut label[..numbers],
-            history,
-        );
+        return compare_in(first, second, &mut queue, &mut label[..numbers], history);
     }
-    let mut pairs = [0u8; 512];
-    let mut trail = [0u8; 512];
+    let mut queue = [0u8; 1024];
     let mut label = [0u8; 256];
-    compare_in(
-        first,
-        second,
-        &mut pairs,
-        &mut trail,
-        &mut label[..numbers],
-        history,
-    )
+    compare_in(first, second, &mut queue, &mut label[..numbers], history)
 }
 
 // The same with arrays that have room for the search.
 fn compare_in(
     first: &[u8],
     second: &[u8],
-    pairs: &mut [u8],
-    trail: &mut [u8],
+    queue: &mut [u8],
     label: &mut [u8],
     history: &mut [u8],
 ) -> Compared
-    requires { ⌜ Ready (now first) (now second) (Book.width (now first)) (Book.states (now first)) (now pairs) (now trail) (now label) ⌝ }
-    requires { ⌜ 256 ≤ length (now history) ⌝ }
+    requires { ⌜ BooksReady (now first) (now second) (now queue) (now label) × (256 ≤ length (now history)) ⌝ }
     ensures { λ r. ⌜ comparedAnswer r (now (history .exit)) ≡ given (comparison (now (first .entry)) (now (second .entry))) ⌝ }
     ensures { λ r. ⌜ now (history .exit) ≡ written (historyBytes (comparison (now (first .entry)) (now (second .entry)))) (now (history .entry)) ⌝ }
 {
-    let spot = first_difference(
-        first,
-        second,
-        width(first),
-        states(first),
-        pairs,
-        trail,
-        label,
-    );
-    told(spot, trail, history)
+    let spot = first_difference(first, second, queue, label);
+    answer(spot, queue, history)
 }
 
 // The answer for what the search found.
-fn told(spot: Spot, trail: &[u8], history: &mut [u8]) -> Compared
-    requires { ⌜ Writable spot (now trail) ⌝ }
-    requires { ⌜ 256 ≤ length (now history) ⌝ }
+fn answer(spot: Spot, trail: &[u8], history: &mut [u8]) -> Compared
+    requires { ⌜ Writable spot (now trail) × (256 ≤ length (now history)) ⌝ }
     ensures { λ r. ⌜ comparedAnswer r (now (history .exit)) ≡ given (spotted spot (now (trail .entry))) ⌝ }
     ensures { λ r. ⌜ now (history .exit) ≡ written (historyBytes (spotted spot (now (trail .entry)))) (now (history .entry)) ⌝ }
 {
@@ -128,10 +99,9 @@ fn told(spot: Spot, trail: &[u8], history: &mut [u8]) -> Compared
     }
 }
 
-// Writes the history of place i, and then the code, to the front of the buffer, and gives their number. Bytes after them stay.
+// Writes the history of place i, and then the code, to the front of the buffer, and returns their number. Bytes after them are unchanged.
 fn write_difference(trail: &[u8], i: usize, code: usize, history: &mut [u8]) -> usize
-    requires { ⌜ Traced i code (now trail) ⌝ }
-    requires { ⌜ 256 ≤ length (now history) ⌝ }
+    requires { ⌜ Traced i code (now trail) × (256 ≤ length (now history)) ⌝ }
     ensures { λ r. ⌜ r ≡ length (differenceAt (now (trail .entry)) i code) ⌝ }
     ensures { λ r. ⌜ now (history .exit) ≡ written (differenceAt (now (trail .entry)) i code) (now (history .entry)) ⌝ }
 {

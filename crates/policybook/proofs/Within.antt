@@ -15,10 +15,10 @@ use Rattle.definitions.proofs.Written.{length-taken}
 use Rattle.build.specs.BuiltAnswer.{builtAnswer}
 use Rattle.build.specs.declared.Built.{Built}
 use Rattle.build.specs.declared.Built.the-variants as Built
-use Rattle.compare.specs.Answer.{comparedAnswer}
+use Rattle.compare.specs.ComparedAnswer.{comparedAnswer}
 use Rattle.compare.specs.declared.Compared.{Compared}
 use Rattle.compare.specs.declared.Compared.the-variants as Compared
-use Rattle.compare.proofs.Returned.{difference-small}
+use Rattle.compare.proofs.ComparedAnswer.{difference-small}
 use Rattle.policybook.proofs.Small.{book-small}
 use Rattle.policybook.specs.Within.{BuiltWithin, ComparedWithin}
 

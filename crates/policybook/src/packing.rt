@@ -6,7 +6,7 @@ ghost use lib.ListN.{length};
 ghost use Rattle.build.specs.BuiltAnswer.{builtAnswer};
 ghost use Rattle.verdict.specs.VerdictAnswer.{foundOf, blockedOf, judgedAnswer};
 ghost use Rattle.verdict.specs.AnswerBounds.{BlockedWithin, FindingWithin, FindingsWithin, JudgedWithin};
-ghost use Rattle.compare.specs.Answer.{comparedAnswer};
+ghost use Rattle.compare.specs.ComparedAnswer.{comparedAnswer};
 ghost use Rattle.policybook.specs.Packing.{packed, bookLength, blockedValue, foundValue, findingsValue, historyLength};
 ghost use Rattle.policybook.specs.Within.{BuiltWithin, ComparedWithin};
 use build::Built;

@@ -2,7 +2,7 @@
 use mathlib.Core.Path.{sym, _∙_}
 use native.Mathlib.Omega.{arith}
 use Rattle.definitions.proofs.Accepted.{book-passed}
-use Rattle.compare.proofs.Answering.{too-short, by-first, by-second, by-frame, by-none}
+use Rattle.compare.proofs.CompareRefusals.{too-short, by-first, by-second, by-frame, by-none}
 use borrow.Author.Needs.{needs}
 use Rattle.compare.proofs.refused_by.Statement.{statement}
 use Rattle.compare.proofs.refused_by.Tie as tie

@@ -1,7 +1,7 @@
 -- `write_difference` meets its contract.
 use native.Mathlib.Omega.{arith}
 use borrow.Author.Needs.{needs}
-use Rattle.compare.proofs.Answering.{difference-written}
+use Rattle.compare.proofs.ComparedAnswer.{difference-written}
 use Rattle.search.proofs.Trails.{history-short}
 use Rattle.compare.proofs.write_difference.Statement.{statement}
 use Rattle.compare.proofs.write_difference.Tie as tie

@@ -1,0 +1,3 @@
+pub mod LabelBytes
+pub mod FirstFailing
+pub mod RowLabels
