@@ -27,7 +27,7 @@ module _ (p t : List ℕ) (size k : ℕ) (h : TableOf p t) (e : size ≡ ruleSiz
   }
 
 module _ (p t : List ℕ) (h : ChangesOf p t) where
-  changes-length : length t ≡ events p * variables p
+  pub changes-length : length t ≡ events p * variables p
   changes-length = rw (h .changes, length-drop, length-drop) (let e = h .sized .exact in omega arith)
 
   -- change j of event e

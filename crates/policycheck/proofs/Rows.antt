@@ -1,6 +1,6 @@
--- Rows judged in order: a row that fits ends the search, and one that does not leaves it to the rows after it. And tests joined into one.
+-- Rows judged in order: a row that fits ends the search, and one that does not leaves it to the rows after it.
 use mathlib.Core.Path.{_≡_}
-use mathlib.Core.Bool.{Bool, true, false, _&&_}
+use mathlib.Core.Bool.{Bool, true, false}
 use Prim.Native.Nat.{ℕ}
 use Rattle.definitions.specs.Answer.{judge}
 
@@ -10,7 +10,3 @@ module _ (number : ℕ) (passes : Bool) (later : ℕ) where
 
   pub goes-on : (r : ℕ) → passes ≡ true → r ≡ later → r ≡ judge number passes later
   goes-on r h e = rw h e
-
--- the tests before the last have passed
-pub and-last : (a b r : Bool) → a ≡ true → r ≡ b → r ≡ (a && b)
-and-last a b r passed last = rw passed last

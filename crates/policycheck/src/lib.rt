@@ -9,7 +9,7 @@ ghost use lib.Dec.{leb};
 ghost use Rattle.definitions.specs.Refusal.{fileRefusal, row7};
 ghost use Rattle.definitions.specs.Valuation.{valuations};
 ghost use Rattle.policy.specs.Sized.{Sized, TableOf};
-use policy::header;
+use policy::part;
 use policy::valuation;
 
 // The number of the lowest row from 2 to 10 that turns the file down; 0 if none does.
@@ -42,8 +42,7 @@ fn contents_refusal(policy: &[u8]) -> usize
     if !counts::counts_hold(policy) {
         return 7;
     }
-    let after_counts = 9 + header::fields(policy);
-    let table = &policy[after_counts..];
+    let table = part::rule_table(policy);
     if !masks::masks_hold(policy, table) {
         return 8;
     }

@@ -7,7 +7,6 @@ use borrow.Author.Needs.{needs}
 use Rattle.definitions.specs.Refusal.{row7, row8, row9, row10, countsHold, masksHold, valuesHold}
 use Rattle.definitions.specs.Valuation.{valuations}
 use Rattle.definitions.proofs.Tests.{failed, held}
-use Rattle.policy.proofs.Parts.{lent-table}
 use Rattle.policycheck.proofs.Rows.{stops, goes-on}
 use Rattle.policycheck.proofs.contents_refusal.Statement.{statement}
 use Rattle.policycheck.proofs.contents_refusal.Tie as tie
@@ -26,20 +25,20 @@ after7 c r e =
     goes-on 7 (countsHold (start .args .policy .now)) (row8 (start .args .policy .now)) r (counts-pass c) e
 
 after8 : (c : tie.Else2) (r : ℕ)
-    → let start = c .before .before .before .before .before .before .before in
+    → let start = c .before .before .before .before .before .before in
     r ≡ row9 (start .args .policy .now) → r ≡ row7 (start .args .policy .now)
 unfolding row8
 after8 c r e =
-    let start = c .before .before .before .before .before .before .before in
-    after7 (c .before .before .before .before) r
+    let start = c .before .before .before .before .before .before in
+    after7 (c .before .before .before) r
     (goes-on 8 (masksHold (start .args .policy .now)) (row9 (start .args .policy .now)) r (held _ _ (c .before .masks-hold .ensures) (c .if2 .left)) e)
 
 after9 : (c : tie.Else3) (r : ℕ)
-    → let start = c .before .before .before .before .before .before .before .before .before in
+    → let start = c .before .before .before .before .before .before .before .before in
     r ≡ row10 (start .args .policy .now) → r ≡ row7 (start .args .policy .now)
 unfolding row9
 after9 c r e =
-    let start = c .before .before .before .before .before .before .before .before .before in
+    let start = c .before .before .before .before .before .before .before .before in
     after8 (c .before .before) r
     (goes-on 9 (valuesHold (start .args .policy .now)) (row10 (start .args .policy .now)) r (held _ _ (c .before .values-hold .ensures) (c .if3 .left)) e)
 
@@ -52,63 +51,43 @@ returns c =
     let start = c .before .before .before in
     stops 7 (countsHold (start .args .policy .now)) (row8 (start .args .policy .now)) (failed _ _ (c .before .counts-hold .ensures) (c .if1 .taken))
 
-fields-requires : tie.Need-fields-requires
-fields-requires c κs = search needs
-
-add-after-counts : tie.Need-add-after-counts
-add-after-counts c = search needs
-
-sub-table : tie.Need-sub-table
-sub-table c = search needs
-
-part-table-start : tie.Need-part-table-start
-part-table-start c = search needs
-
-part-table-end : tie.Need-part-table-end
-part-table-end c = search needs
+rule-table-requires : tie.Need-rule-table-requires
+rule-table-requires c κs = search needs
 
 masks-hold-requires : tie.Need-masks-hold-requires
-masks-hold-requires c κs =
-    let start = c .before .before .before .before .before in
-    (lent-table (start .args .policy .now) (c .before .fields .result) (start .pre) (c .before .fields .ensures .0), counts-pass (c .before .before))
+masks-hold-requires c κs = (c .rule-table .ensures, counts-pass (c .before))
 
 returns-2 : tie.Need-returns-2
 unfolding row8
 returns-2 c =
-    let start = c .before .before .before .before .before .before .before in
-    after7 (c .before .before .before .before) 8
+    let start = c .before .before .before .before .before .before in
+    after7 (c .before .before .before) 8
     (stops 8 (masksHold (start .args .policy .now)) (row9 (start .args .policy .now)) (failed _ _ (c .before .masks-hold .ensures) (c .if2 .taken)))
 
 values-hold-requires : tie.Need-values-hold-requires
-values-hold-requires c κs =
-    let start = c .before .before .before .before .before .before .before in
-    let fields = c .before .before .before .fields in
-    lent-table (start .args .policy .now) (fields .result) (start .pre) (fields .ensures .0)
+values-hold-requires c κs = c .before .before .rule-table .ensures
 
 returns-3 : tie.Need-returns-3
 unfolding row9
 returns-3 c =
-    let start = c .before .before .before .before .before .before .before .before .before in
+    let start = c .before .before .before .before .before .before .before .before in
     after8 (c .before .before) 9
     (stops 9 (valuesHold (start .args .policy .now)) (row10 (start .args .policy .now)) (failed _ _ (c .before .values-hold .ensures) (c .if3 .taken)))
 
 valuations-hold-requires : tie.Need-valuations-hold-requires
-valuations-hold-requires c κs =
-    let start = c .before .before .before .before .before .before .before .before .before in
-    let fields = c .before .before .before .before .before .fields in
-    lent-table (start .args .policy .now) (fields .result) (start .pre) (fields .ensures .0)
+valuations-hold-requires c κs = c .before .before .before .before .rule-table .ensures
 
 returns-4 : tie.Need-returns-4
 unfolding row10
 returns-4 c =
-    let start = c .before .before .before .before .before .before .before .before .before .before .before in
+    let start = c .before .before .before .before .before .before .before .before .before .before in
     after9 (c .before .before) 10
     (stops 10 (leb (valuations (start .args .policy .now)) 64) 0 (failed _ _ (c .before .valuations-hold .ensures) (c .if4 .taken)))
 
 returns-5 : tie.Need-returns-5
 unfolding row10
 returns-5 c =
-    let start = c .before .before .before .before .before .before .before .before .before .before .before in
+    let start = c .before .before .before .before .before .before .before .before .before .before in
     after9 (c .before .before) 0
     (goes-on 10 (leb (valuations (start .args .policy .now)) 64) 0 0 (held _ _ (c .before .valuations-hold .ensures) (c .if4 .left)) refl)
 
@@ -118,11 +97,7 @@ contents-refusal-spec =
     (tie.spec
     counts-hold-requires
     returns
-    fields-requires
-    add-after-counts
-    sub-table
-    part-table-start
-    part-table-end
+    rule-table-requires
     masks-hold-requires
     returns-2
     values-hold-requires
