@@ -9,29 +9,16 @@ use native.Mathlib.Omega.{arith}
 use native.Mathlib.Decide.{decLt}
 use lib.Dec.{T}
 use Rattle.automaton.specs.History.{History, Earlier, NotLater, Earliest}
-use Rattle.automaton.specs.Machine.{Machine, step, after, Alike, inOne}
+use Rattle.automaton.specs.Machine.{Machine, step, after, Alike, inOne, Distinguishes}
 use Rattle.automaton.proofs.Order.{tri, earlier-trans, earlier-append, earlier-code, earlier-longer, not-later-refl, not-later-trans, not-later-append, not-later-code, not-later-longer}
-use Rattle.automaton.proofs.Machines.{step-past, after-append, after-zero, ToldApart, alike-of-not-told-apart}
+use Rattle.automaton.proofs.Machines.{step-past, after-append, after-zero, alike-of-not-distinguished}
 use Rattle.automaton.proofs.Counting.{below-suc, count-below-le}
-use Rattle.automaton.proofs.Parents.{trail, Falls, Stored, trail-start, trail-same, trail-last, falls-stored}
-use Rattle.automaton.proofs.Labels.{Among, Rooted, Divides, Merged, labels, ownLabel, own-rooted, own-undivided, some-label, merge-rooted, merge-fewer, merge-divides}
-use Rattle.automaton.proofs.Separating.{HasStates, Separates, possibleAt, separates-after, states-apart, states-not-apart, told-apart-at}
-
--- a state of A, a state of B, and a history that leads to both
-pub record Pair : Type 0 where
-  pub left : ℕ
-  pub right : ℕ
-  pub history : History
-
--- a queue of pairs, the histories kept as parents and codes
-pub record Queue : Type 0 where
-  pub left : ℕ → ℕ
-  pub right : ℕ → ℕ
-  pub parent : ℕ → ℕ
-  pub code : ℕ → ℕ
-
-unfoldable pub pairAt : Queue → ℕ → Pair
-pairAt q k = record { left = q .left k; right = q .right k; history = trail (q .parent) (q .code) k }
+use Rattle.automaton.specs.Parents.{trail, Falls}
+use Rattle.automaton.proofs.Parents.{Stored, trail-start, trail-same, trail-last, falls-stored}
+use Rattle.automaton.specs.Labels.{Among, Rooted, Divides, labels, ownLabel}
+use Rattle.automaton.proofs.Labels.{Merged, own-rooted, own-undivided, some-label, merge-rooted, merge-fewer, merge-divides}
+use Rattle.automaton.proofs.Separating.{HasStates, Separates, separates-after, states-apart, states-not-apart, told-apart-at}
+use Rattle.automaton.specs.PairQueue.{possibleAt, Pair, Queue, pairAt, IsPair, Apart, IsQueue, Done, Search}
 
 -- the states x and y are put at place m of the queue: code c leads to them from pair i
 pub record Added (m i c x y : ℕ) (old new : Queue) : Type 0 where
@@ -60,42 +47,6 @@ module _ (m i c x y : ℕ) (old new : Queue) (added : Added m i c x y old new) (
     right = added .right .last j;
     history = trail-last m (old .parent) (old .code) falls i c (new .parent) (new .code) (added .parent) (added .code) l j;
   }
-
--- ---- what holds on the way
-pub record IsPair (A B : Machine) (a b : ℕ) (p : Pair) : Type 0 where
-  pub left-state : Among a (p .left)
-  pub right-state : Among b (p .right)
-  pub left-after : after A (A .start) (p .history) ≡ p .left
-  pub right-after : after B (B .start) (p .history) ≡ p .right
-
--- z is possible from just one of the pair's states
-abbrev pub Apart : Machine → Machine → Pair → History → Type 0
-Apart A B p z = ToldApart A (p .left) B (p .right) z
-
--- m pairs in the order of their histories, from that of the starts on. What tells two states of one label apart tells a pair apart: state x of A has
--- the label of the number x, state y of B that of a + y. Each pair has taken one of a + b labels away.
-pub record IsQueue (A B : Machine) (a b m : ℕ) (q : Queue) (label : ℕ → ℕ) : Type 0 where
-  pub some : 1 ≤ m
-  pub first : pairAt q 0 ≡ record { left = A .start; right = B .start; history = [] }
-  pub pairs : (k : ℕ) → k < m → IsPair A B a b (pairAt q k)
-  pub ordered : (j k : ℕ) → j < k → k < m → Earlier (pairAt q j .history) (pairAt q k .history)
-  pub falls : Falls m (q .parent)
-  pub labelled : (z : History) → Divides (a + b) label (possibleAt a A B z) → (k : ℕ) × (k < m) × Apart A B (pairAt q k) z
-  pub rooted : Rooted (a + b) label
-  pub few : m + labels (a + b) label ≤ a + b
-
--- code d of pair j is done: where d and then z tell the pair apart, z tells a queued pair apart whose history is not later
-abbrev pub Done : Machine → Machine → ℕ → Queue → ℕ → ℕ → Type 0
-Done A B m q j d =
-    (z : History) → Apart A B (pairAt q j) (d ∷ z)
-    → (k : ℕ) × (k < m) × NotLater (pairAt q k .history) (pairAt q j .history ++ (d ∷ [])) × Apart A B (pairAt q k) z
-
--- the search has come to code c of pair i
-pub record Search (A B : Machine) (a b m i c : ℕ) (q : Queue) (label : ℕ → ℕ) : Type 0 where
-  pub queue : IsQueue A B a b m q label
-  pub made : i < m → (k : ℕ) → k < m → Earlier (pairAt q k .history) (pairAt q i .history ++ (c ∷ []))
-  pub finished : (j : ℕ) → j < i → (d : ℕ) → Done A B m q j d
-  pub tried : (d : ℕ) → d < c → Done A B m q i d
 
 -- ---- the beginning: the pair of the starts is queued, and of labels that were each number's own those of the two starts are merged
 module _ (A B : Machine) (a b : ℕ) (ofA : HasStates A a) (ofB : HasStates B b) (q : Queue) (own label : ℕ → ℕ) where
@@ -180,7 +131,7 @@ module _ (A B : Machine) (a b m i c : ℕ) (q : Queue) (label : ℕ → ℕ) (S 
     tried = λ d l. absurd (omega arith);
   }
     where
-      past : (x y d : ℕ) → c ≤ d → (z : History) → ToldApart A x B y (d ∷ z) → ⊥
+      past : (x y d : ℕ) → c ≤ d → (z : History) → Distinguishes A x B y (d ∷ z) → ⊥
       past x y d l z t = rw (step-past A x d (omega arith), step-past B y d (omega arith), after-zero A z, after-zero B z) at t
 
       go : (j d : ℕ) → (j < i) ⊎ (j ≡ i) → Dec (d < c) → Done A B m q j d
@@ -199,7 +150,7 @@ module _ (A B : Machine) (a b m i c : ℕ) (q : Queue) (label : ℕ → ℕ) (S 
     unfolding pairAt
     leads-right = ey
 
-    leads : (z : History) → Apart A B (pairAt q i) (c ∷ z) → ToldApart A x B y z
+    leads : (z : History) → Apart A B (pairAt q i) (c ∷ z) → Distinguishes A x B y z
     leads z t = rw (← leads-left, ← leads-right) t
 
     statex : Among a x
@@ -304,7 +255,7 @@ module _ (A B : Machine) (a b m i c : ℕ) (q : Queue) (label : ℕ → ℕ) (S 
 
   -- all pairs are finished: the machines are alike
   pub search-alike : m ≤ i → Alike A (A .start) B (B .start)
-  search-alike l = alike-of-not-told-apart A (A .start) B (B .start) (λ h t. none h 0 (S .queue .some) (from-first h t))
+  search-alike l = alike-of-not-distinguished A (A .start) B (B .start) (λ h t. none h 0 (S .queue .some) (from-first h t))
     where
       none : (z : History) (k : ℕ) → k < m → Apart A B (pairAt q k) z → ⊥
       none [] k b t = not-apart k b t

@@ -12,7 +12,7 @@ use lib.Dec.{T, eqb, ltb}
 use lib.ListN.{length, getD, length-append, List·getD-append}
 use lib.Seq.{getD-at}
 use borrow.Author.Tests.{eqb-true, eq-eqb, ltb-true, ltb-false}
-use Rattle.automaton.specs.Below.{allBelow, anyBelow, lowestBelow, foldBelow, listBelow, sameList, oneOn, placeOf}
+use Rattle.automaton.specs.Below.{allBelow, anyBelow, lowestBelow, foldBelow, listBelow, sameList, oneOn, placeOf, one, countBelow}
 
 -- a number below n + 1 is below n or is n
 pub below-suc : (k n : ℕ) → k < suc n → (k < n) ⊎ (k ≡ n)
@@ -234,15 +234,6 @@ module _ {A : Type 0} (f : A → Bool) where
             same : Dec (r .0 < k) → r .0 ≡ k
             same (yes p) = absurd (true≢false (sym (place-hit xs (r .0) (r .2) .1) ∙ before (r .0) p))
             same (no p) = omega (arith, r .1)
-
--- how many of the numbers below n pass
-abbrev pub one : Bool → ℕ
-one true = 1
-one false = 0
-
-abbrev pub countBelow : ℕ → (ℕ → Bool) → ℕ
-countBelow zero f = 0
-countBelow (suc n) f = countBelow n f + one (f n)
 
 one-le : (a b : Bool) → (a ≡ true → b ≡ true) → one a ≤ one b
 one-le true b h = rw (h refl) (omega arith)

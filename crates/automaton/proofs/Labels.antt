@@ -9,28 +9,9 @@ use lib.Dec.{T, eqb}
 use borrow.Author.Tests.{eqb-true, eqb-false, eq-eqb, ne-eqb}
 use Rattle.automaton.specs.Machine.{inOne}
 use Rattle.automaton.proofs.Machines.{in-one-cotrans, in-one-sym, in-one-self}
-use Rattle.automaton.proofs.Counting.{countBelow, count-below-grows, count-below-some}
-
--- one of the numbers 1 to N
-pub record Among (N u : ℕ) : Type 0 where
-  pub least : 1 ≤ u
-  pub most : u ≤ N
-
--- each label is a number that has itself for its label
-abbrev pub Rooted : ℕ → (ℕ → ℕ) → Type 0
-Rooted N label = (u : ℕ) → Among N u → Among N (label u) × (label (label u) ≡ label u)
-
--- number u + 1 has itself for its label
-abbrev pub ownLabel : (ℕ → ℕ) → ℕ → Bool
-ownLabel label u = eqb (label (suc u)) (suc u)
-
--- how many labels there are
-abbrev pub labels : ℕ → (ℕ → ℕ) → ℕ
-labels N label = countBelow N (ownLabel label)
-
--- the test differs on two numbers of one label
-abbrev pub Divides : ℕ → (ℕ → ℕ) → (ℕ → Bool) → Type 0
-Divides N label test = (u : ℕ) × (v : ℕ) × Among N u × Among N v × (label u ≡ label v) × T (inOne (test u) (test v))
+use Rattle.automaton.specs.Below.{countBelow}
+use Rattle.automaton.proofs.Counting.{count-below-grows, count-below-some}
+use Rattle.automaton.specs.Labels.{Among, Rooted, ownLabel, labels, Divides}
 
 -- each number that has the label of y gets the label of x, and the others keep theirs
 abbrev pub merge : (ℕ → ℕ) → ℕ → ℕ → ℕ → ℕ

@@ -8,7 +8,9 @@ pub mod Earliest
 pub mod Reachable
 pub mod Congruence
 pub mod Turns
+pub mod KeptNumbers
 pub mod WellFormed
+pub mod StateList
 pub mod Filling
 pub mod Refining
 pub mod Settled

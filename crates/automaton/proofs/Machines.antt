@@ -11,7 +11,7 @@ use lib.Dec.{T}
 use lib.ListN.{length, getD}
 use borrow.Author.Tests.{le-ltb}
 use Rattle.automaton.specs.History.{History}
-use Rattle.automaton.specs.Machine.{Machine, step, after, isState, possibleFrom, Alike, inOne}
+use Rattle.automaton.specs.Machine.{Machine, step, after, isState, possibleFrom, Alike, inOne, Distinguishes}
 
 -- states are the numbers above 0
 pub is-state : (s : ℕ) → 1 ≤ s → isState s ≡ true
@@ -111,20 +111,16 @@ in-one-dec true false = yes tt
 in-one-dec false true = yes tt
 in-one-dec false false = no (λ t. t)
 
--- the history h is possible from just one of the state x of A and the state y of B
-abbrev pub ToldApart : Machine → ℕ → Machine → ℕ → History → Type 0
-ToldApart A x B y h = T (inOne (possibleFrom A x h) (possibleFrom B y h))
+pub distinguishes-cotrans : (A : Machine) (x : ℕ) (B : Machine) (y : ℕ) (C : Machine) (z : ℕ) (h : History)
+    → Distinguishes A x C z h → Distinguishes A x B y h ⊎ Distinguishes B y C z h
+distinguishes-cotrans A x B y C z h = in-one-cotrans (possibleFrom A x h) (possibleFrom B y h) (possibleFrom C z h)
 
-pub told-apart-cotrans : (A : Machine) (x : ℕ) (B : Machine) (y : ℕ) (C : Machine) (z : ℕ) (h : History)
-    → ToldApart A x C z h → ToldApart A x B y h ⊎ ToldApart B y C z h
-told-apart-cotrans A x B y C z h = in-one-cotrans (possibleFrom A x h) (possibleFrom B y h) (possibleFrom C z h)
-
-pub told-apart-dec : (A : Machine) (x : ℕ) (B : Machine) (y : ℕ) (h : History) → Dec (ToldApart A x B y h)
-told-apart-dec A x B y h = in-one-dec (possibleFrom A x h) (possibleFrom B y h)
+pub distinguishes-dec : (A : Machine) (x : ℕ) (B : Machine) (y : ℕ) (h : History) → Dec (Distinguishes A x B y h)
+distinguishes-dec A x B y h = in-one-dec (possibleFrom A x h) (possibleFrom B y h)
 
 -- alike are the states that no history tells apart
-pub alike-of-not-told-apart : (A : Machine) (x : ℕ) (B : Machine) (y : ℕ) → ((h : History) → ToldApart A x B y h → ⊥) → Alike A x B y
-alike-of-not-told-apart A x B y n h = same-of-not-in-one (possibleFrom A x h) (possibleFrom B y h) (n h)
+pub alike-of-not-distinguished : (A : Machine) (x : ℕ) (B : Machine) (y : ℕ) → ((h : History) → Distinguishes A x B y h → ⊥) → Alike A x B y
+alike-of-not-distinguished A x B y n h = same-of-not-in-one (possibleFrom A x h) (possibleFrom B y h) (n h)
 
-pub not-told-apart-of-alike : (A : Machine) (x : ℕ) (B : Machine) (y : ℕ) → Alike A x B y → (h : History) → ToldApart A x B y h → ⊥
-not-told-apart-of-alike A x B y a h t = in-one-self (possibleFrom B y h) (rw (a h) at t)
+pub not-distinguished-of-alike : (A : Machine) (x : ℕ) (B : Machine) (y : ℕ) → Alike A x B y → (h : History) → Distinguishes A x B y h → ⊥
+not-distinguished-of-alike A x B y a h t = in-one-self (possibleFrom B y h) (rw (a h) at t)

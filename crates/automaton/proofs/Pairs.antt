@@ -14,11 +14,11 @@ use lib.ListN.{length}
 use borrow.Author.Tests.{ltb-false}
 use Rattle.automaton.specs.Below.{lowestBelow}
 use Rattle.automaton.specs.History.{History, NotLater, Earliest}
-use Rattle.automaton.specs.Machine.{Machine, step, after, isState, Alike, inOne}
+use Rattle.automaton.specs.Machine.{Machine, step, after, isState, Alike, inOne, Distinguishes}
 use Rattle.automaton.specs.Explore.{Reached, reached, firstThat}
 use Rattle.automaton.specs.Pair.{pair, beside, differsBy, differs, lastCode, difference}
 use Rattle.automaton.proofs.Order.{earlier-append, not-later-trans, not-later-code, not-later-longer}
-use Rattle.automaton.proofs.Machines.{is-state, step-past, after-zero, ToldApart, alike-of-not-told-apart}
+use Rattle.automaton.proofs.Machines.{is-state, step-past, after-zero, alike-of-not-distinguished}
 use Rattle.automaton.proofs.Counting.{is-true, any-below, any-below-at, lowest-below, lowest-below-le}
 use Rattle.automaton.proofs.Exploring.{reached-few}
 use Rattle.automaton.proofs.Earliest.{Passes, Explored, reached-explored, first-earliest, first-none}
@@ -102,7 +102,7 @@ record Parting (A B : Machine) (x y : ℕ) (k : History) : Type 0 where
   parts : T (inOne (isState (step A (after A x before) code)) (isState (step B (after B y before) code)))
 
 module _ (A B : Machine) where
-  parting : (k : History) (x y : ℕ) → 1 ≤ x → 1 ≤ y → ToldApart A x B y k → Parting A B x y k
+  parting : (k : History) (x y : ℕ) → 1 ≤ x → 1 ≤ y → Distinguishes A x B y k → Parting A B x y k
   parting [] zero y p q t = absurd (omega arith)
   parting [] (suc x) zero p q t = absurd (omega arith)
   parting [] (suc x) (suc y) p q t = absurd t
@@ -122,8 +122,8 @@ module _ (A B : Machine) where
         parts = r .parts;
       }
 
-      go : (x′ : ℕ) → step A x c ≡ x′ → (y′ : ℕ) → step B y c ≡ y′ → ToldApart A x′ B y′ k
-          → (1 ≤ step A x c → 1 ≤ step B y c → ToldApart A (step A x c) B (step B y c) k → Parting A B (step A x c) (step B y c) k)
+      go : (x′ : ℕ) → step A x c ≡ x′ → (y′ : ℕ) → step B y c ≡ y′ → Distinguishes A x′ B y′ k
+          → (1 ≤ step A x c → 1 ≤ step B y c → Distinguishes A (step A x c) B (step B y c) k → Parting A B (step A x c) (step B y c) k)
           → Parting A B x y (c ∷ k)
       go zero e zero f u ih = absurd (rw (after-zero A k, after-zero B k) at u)
       go zero e (suc y′) f u ih = here (rw (e, f) tt)
@@ -187,7 +187,7 @@ module _ (A B : Machine) (a b : ℕ) (ofA : HasStates A a) (ofB : HasStates B b)
     )
 
   answer-none : ((h : History) → Passes both test h → ⊥) → Alike A (A .start) B (B .start)
-  answer-none n = alike-of-not-told-apart A (A .start) B (B .start) (λ k t.
+  answer-none n = alike-of-not-distinguished A (A .start) B (B .start) (λ k t.
       let r = parting A B k (A .start) (B .start) (ofA .start .least) (ofB .start .least) t in
       n (r .before) (parts-pass (r .before) (r .left) (r .right) (r .code) (r .parts)))
 

@@ -8,19 +8,7 @@ use native.Mathlib.Omega.{arith}
 use lib.ListN.{length, length-append}
 use Rattle.automaton.specs.History.{History}
 use Rattle.automaton.proofs.Counting.{below-suc}
-
-abbrev climb : (ℕ → ℕ) → (ℕ → ℕ) → ℕ → ℕ → History
-climb parent code zero k = []
-climb parent code (suc fuel) zero = []
-climb parent code (suc fuel) (suc k) = climb parent code fuel (parent (suc k)) ++ (code (suc k) ∷ [])
-
--- the history of place k
-unfoldable pub trail : (ℕ → ℕ) → (ℕ → ℕ) → ℕ → History
-trail parent code k = climb parent code (suc k) k
-
--- of m places each but the first has an earlier one for its parent
-abbrev pub Falls : ℕ → (ℕ → ℕ) → Type 0
-Falls m parent = (k : ℕ) → suc k < m → parent (suc k) ≤ k
+use Rattle.automaton.specs.Parents.{climb, trail, Falls}
 
 -- x is stored at place m, and the places before are as they were
 pub record Stored (m x : ℕ) (old new : ℕ → ℕ) : Type 0 where

@@ -11,11 +11,13 @@ use lib.Dec.{T, leb}
 use lib.ListN.{length, length-append}
 use borrow.Author.Tests.{le-leb, lt-leb}
 use Rattle.automaton.specs.History.{History, NotLater, Earliest}
-use Rattle.automaton.specs.Machine.{Machine, step, after, isState, possibleFrom, possible, Alike, inOne}
+use Rattle.automaton.specs.Machine.{Machine, step, after, isState, possibleFrom, possible, Alike, inOne, Distinguishes}
 use Rattle.automaton.proofs.Order.{earliest-unique}
-use Rattle.automaton.proofs.Machines.{after-append, after-zero, after-keeps, ToldApart, not-told-apart-of-alike}
+use Rattle.automaton.proofs.Machines.{after-append, after-zero, after-keeps, not-distinguished-of-alike}
 use Rattle.automaton.proofs.Counting.{count-below-le}
-use Rattle.automaton.proofs.Labels.{Among, Rooted, Divides, labels, ownLabel, merge, own-rooted, own-undivided, some-label, merge-rooted, merge-fewer, merge-divides}
+use Rattle.automaton.specs.Labels.{Among, Rooted, Divides, labels, ownLabel}
+use Rattle.automaton.proofs.Labels.{merge, own-rooted, own-undivided, some-label, merge-rooted, merge-fewer, merge-divides}
+use Rattle.automaton.specs.PairQueue.{possibleAt}
 
 -- the states of m are the numbers 1 to n
 pub record HasStates (m : Machine) (n : ℕ) : Type 0 where
@@ -31,16 +33,11 @@ abbrev pub Answers : Machine → Machine → Option History → Type 0
 Answers A B none = Alike A (A .start) B (B .start)
 Answers A B (some h) = Earliest (Separates A B) h
 
--- The states of both machines share the numbers 1 to a + b: those of A keep theirs, and state t of B has the number a + t.
--- The history z is possible from number u:
-abbrev pub possibleAt : ℕ → Machine → Machine → History → ℕ → Bool
-possibleAt a A B z u = cond (leb u a) (possibleFrom A u z) (possibleFrom B (u - a) z)
-
 -- there is one answer
 pub answers-unique : (A B : Machine) (o p : Option History) → Answers A B o → Answers A B p → o ≡ p
 answers-unique A B none none r s = refl
-answers-unique A B none (some h) r s = absurd (not-told-apart-of-alike A (A .start) B (B .start) r h (s .0))
-answers-unique A B (some h) none r s = absurd (not-told-apart-of-alike A (A .start) B (B .start) s h (r .0))
+answers-unique A B none (some h) r s = absurd (not-distinguished-of-alike A (A .start) B (B .start) r h (s .0))
+answers-unique A B (some h) none r s = absurd (not-distinguished-of-alike A (A .start) B (B .start) s h (r .0))
 answers-unique A B (some h) (some k) r s = ap some (earliest-unique (Separates A B) h k r s)
 
 pub after-within : (m : Machine) (n : ℕ) → HasStates m n → (s : ℕ) → s ≤ n → (h : History) → after m s h ≤ n
@@ -75,7 +72,7 @@ module _ (A B : Machine) where
       → (1 ≤ after A (A .start) p) × (1 ≤ after B (B .start) p)
   possible-before p c z t not = go (after A (A .start) p) (after B (B .start) p) not (rw (separates-after p (c ∷ z)) at t)
     where
-      go : (x y : ℕ) → (T (inOne (isState x) (isState y)) → ⊥) → ToldApart A x B y (c ∷ z) → (1 ≤ x) × (1 ≤ y)
+      go : (x y : ℕ) → (T (inOne (isState x) (isState y)) → ⊥) → Distinguishes A x B y (c ∷ z) → (1 ≤ x) × (1 ≤ y)
       go zero zero n u = absurd (rw (after-zero A z, after-zero B z) at u)
       go zero (suc y) n u = absurd (n tt)
       go (suc x) zero n u = absurd (n tt)

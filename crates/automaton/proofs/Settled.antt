@@ -14,7 +14,8 @@ use borrow.Author.Tests.{eqb-true, eq-eqb}
 use Rattle.automaton.specs.Machine.{Alike}
 use Rattle.automaton.specs.Table.{tabled}
 use Rattle.automaton.specs.Join.{classOf, refine, classesAfter, classes}
-use Rattle.automaton.proofs.Counting.{countBelow, count-below-le, count-below-same, count-below-some}
+use Rattle.automaton.specs.Below.{countBelow}
+use Rattle.automaton.proofs.Counting.{count-below-le, count-below-same, count-below-some}
 use Rattle.automaton.proofs.WellFormed.{IsTable}
 use Rattle.automaton.proofs.Refining.{NamedByFirst, classes-after, classes-after-named, class-of-start}
 

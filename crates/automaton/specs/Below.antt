@@ -1,7 +1,7 @@
 -- Tests, folds and lists over the numbers below a bound, and two tests on lists. Each is stated by its first n turns, as a loop that counts up makes them.
 use mathlib.Core.Bool.{Bool, cond, true, false, _&&_, _||_}
 use mathlib.Core.List.{List, [], _∷_, _++_}
-use Prim.Native.Nat.{ℕ, zero, suc}
+use Prim.Native.Nat.{ℕ, zero, suc, _+_}
 use lib.Dec.{eqb, ltb}
 
 -- f holds at each number below n
@@ -48,3 +48,12 @@ oneOn (suc k) = suc (suc k)
 abbrev pub placeOf {ℓ} : {A : Type ℓ} → (A → Bool) → List A → ℕ
 placeOf f [] = 0
 placeOf f (x ∷ xs) = let rest = oneOn (placeOf f xs) in cond (f x) 1 rest
+
+-- how many of the numbers below n pass
+abbrev pub one : Bool → ℕ
+one true = 1
+one false = 0
+
+abbrev pub countBelow : ℕ → (ℕ → Bool) → ℕ
+countBelow zero f = 0
+countBelow (suc n) f = countBelow n f + one (f n)

@@ -5,3 +5,7 @@ pub mod Explore
 pub mod Table
 pub mod Join
 pub mod Pair
+pub mod StateList
+pub mod Parents
+pub mod Labels
+pub mod PairQueue

@@ -4,7 +4,7 @@ use mathlib.Core.Path.{_≡_}
 use mathlib.Core.Bool.{Bool, cond, true, false}
 use mathlib.Core.List.{[], _∷_}
 use Prim.Native.Nat.{ℕ, zero, suc, _<_}
-use lib.Dec.{ltb}
+use lib.Dec.{ltb, T}
 use Rattle.automaton.specs.History.{History}
 
 pub record Machine : Type 0 where
@@ -54,3 +54,7 @@ inOne true true = false
 inOne true false = true
 inOne false true = true
 inOne false false = false
+
+-- history h is possible from just one of the state x of A and the state y of B: it distinguishes the two
+abbrev pub Distinguishes : Machine → ℕ → Machine → ℕ → History → Type 0
+Distinguishes A x B y h = T (inOne (possibleFrom A x h) (possibleFrom B y h))

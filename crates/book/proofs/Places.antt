@@ -7,7 +7,7 @@ use lib.ListN.{length}
 use Rattle.automaton.proofs.Loops.{row-within}
 use Rattle.definitions.specs.Bytes.{byte}
 use Rattle.definitions.specs.Book.{states, width, entry}
-use Rattle.definitions.proofs.Accepted.{BookLayout}
+use Rattle.definitions.specs.Checked.{BookLayout}
 
 module _ (b : List ℕ) (laid : BookLayout b) (w : ℕ) (same : w ≡ width b) where
   -- row i, counted from 0, stands within the book

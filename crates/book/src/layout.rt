@@ -3,7 +3,7 @@ ghost use mathlib.Core.Path.{_≡_};
 ghost use Prim.Native.Nat.{_≤_, _<_};
 ghost use lib.ListN.{length};
 ghost use Rattle.definitions.specs.Book as Book;
-ghost use Rattle.definitions.proofs.Accepted.{BookLayout};
+ghost use Rattle.definitions.specs.Checked.{BookLayout};
 use automaton::wide;
 
 // E, the number of events.

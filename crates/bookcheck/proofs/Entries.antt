@@ -14,7 +14,8 @@ use Rattle.definitions.specs.Bytes.{byte}
 use Rattle.definitions.specs.Book.{events, width, states, entry}
 use Rattle.definitions.specs.Refusal.{entriesHold}
 use Rattle.bookcheck.specs.Entries.{greatest, leadsOn, rowLeadsOn, eventsLeadOn}
-use Rattle.definitions.proofs.Accepted.{BookLayout, entries-true, entries-hold}
+use Rattle.definitions.specs.Checked.{BookLayout}
+use Rattle.definitions.proofs.Accepted.{entries-true, entries-hold}
 use Rattle.book.proofs.Places.{row-inside, entry-at}
 
 -- ---- the greatest entry

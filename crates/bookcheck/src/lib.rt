@@ -7,7 +7,7 @@ ghost use Rattle.definitions.specs.Book as Book;
 ghost use Rattle.definitions.specs.Bytes.{within as isWithin};
 ghost use Rattle.definitions.specs.Refusal.{countHolds, layoutHolds, entriesHold, bookRefusal};
 ghost use Rattle.bookcheck.specs.Entries.{isMarked, greatest as greatestOf, leadsOn, eventsLeadOn, lesser};
-ghost use Rattle.definitions.proofs.Accepted.{BookLayout};
+ghost use Rattle.definitions.specs.Checked.{BookLayout};
 use automaton::wide;
 use book::events;
 use book::requests;

@@ -15,12 +15,12 @@ use Rattle.automaton.proofs.Exploring.{stateAt}
 use Rattle.automaton.proofs.Tables.{table-length, row-of-table}
 use Rattle.definitions.specs.Bytes.{byte}
 use Rattle.definitions.proofs.BookSteps.{state-is}
-use Rattle.tables.specs.States.{states}
+use Rattle.automaton.specs.StateList.{stateList}
 use Rattle.write.specs.Rows.{numberedRow, numberedRows, StatesBelow}
-use Rattle.tables.specs.Classes.{rowsWith}
+use Rattle.refine.specs.Classes.{rowsWith}
 use Rattle.number.specs.Numbers.{Joined, joinedIn, classesReached, stateNumbers}
-use Rattle.tables.proofs.States.{length-states, state-at}
-use Rattle.tables.proofs.TableBytes.{state-row, state-entry}
+use Rattle.automaton.proofs.StateList.{length-states, state-at}
+use Rattle.definitions.proofs.TableBytes.{state-row, state-entry}
 use Rattle.number.proofs.Classing.{count, joined-step, classes-sound}
 use Rattle.number.proofs.Ordering.{state-low}
 use Rattle.write.proofs.Writing.{looked-length}
@@ -41,7 +41,7 @@ module _ {raw : List ℕ} {w : ℕ} {array : List ℕ} (ok : Joined raw w array)
   class-state : (i : ℕ) → i < length L → (1 ≤ stateAt L i) × (stateAt L i < length array)
   class-state i l = (state-is (stateAt L i) (classes-sound ok .states i l), omega (arith, state-low ok i l, ok .table .some))
 
-  pub order-states : StatesBelow (states L) (length numbers)
+  pub order-states : StatesBelow (stateList L) (length numbers)
   order-states i l =
       let b : i < length L = omega (arith, length-states L) in
       let s = class-state i b in
@@ -67,17 +67,17 @@ module _ {raw : List ℕ} {w : ℕ} {array : List ℕ} (ok : Joined raw w array)
           ∙ ap (numberIn L) (joined-step ok s c p l b)
           ∙ sym (getD-list-below (λ c. numberIn L (step J s c)) w c 0 b)
 
-  pub numbered-minimal : numberedRows raw w numbers (states L) ≡ minimal w (rowsWith raw w array)
+  pub numbered-minimal : numberedRows raw w numbers (stateList L) ≡ minimal w (rowsWith raw w array)
   unfolding minimal
   numbered-minimal =
-      let long : length (numberedRows raw w numbers (states L)) ≡ length L = length-map (states L) (numberedRow raw w numbers) ∙ length-states L in
-      ext-getD [] (numberedRows raw w numbers (states L)) (table J L) (long ∙ sym (table-length J L)) (λ i b. row i (omega arith))
+      let long : length (numberedRows raw w numbers (stateList L)) ≡ length L = length-map (stateList L) (numberedRow raw w numbers) ∙ length-states L in
+      ext-getD [] (numberedRows raw w numbers (stateList L)) (table J L) (long ∙ sym (table-length J L)) (λ i b. row i (omega arith))
       ∙ ap (λ (n : ℕ). table J (reached J n)) (sym (count ok))
     where
-      row : (i : ℕ) → i < length L → getD (numberedRows raw w numbers (states L)) i [] ≡ getD (table J L) i []
+      row : (i : ℕ) → i < length L → getD (numberedRows raw w numbers (stateList L)) i [] ≡ getD (table J L) i []
       row i l =
           let s = class-state i l in
-          getD-map-within (numberedRow raw w numbers) (states L) i 0 [] (omega (arith, length-states L))
+          getD-map-within (numberedRow raw w numbers) (stateList L) i 0 [] (omega (arith, length-states L))
           ∙ ap (numberedRow raw w numbers) (state-at L i l)
           ∙ numbered-row (stateAt L i) (s .0) (s .1)
           ∙ sym (row-of-table J L i l)

@@ -28,11 +28,11 @@ use Rattle.policy.specs.Sized.{Sized, Passed}
 use Rattle.policy.proofs.Checked.{passed}
 use Rattle.explore.specs.Images.{imagesMachine}
 use Rattle.explore.specs.Reaches.{allReached, Reaches}
-use Rattle.tables.specs.Rows.{rowsIn, TableIn}
+use Rattle.definitions.specs.Rows.{rowsIn, TableIn}
 use Rattle.build.proofs.Policies.{ImagesOf, reached-policy, table-policy}
 use Rattle.definitions.proofs.Written.{length-written}
 use Rattle.definitions.proofs.BookBytes.{length-concat}
-use Rattle.tables.proofs.Buffers.{rows-of-concat}
+use Rattle.definitions.proofs.RowsWritten.{rows-of-concat}
 
 -- ---- the sizes of a policy that has passed
 module _ (p : List ℕ) (e : fileRefusal p ≡ 0) where

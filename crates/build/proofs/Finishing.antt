@@ -7,12 +7,12 @@ use native.Mathlib.Nat.{le-of-suc-le-suc, not-suc-le-zero, mul-le-mul-right}
 use lib.ListN.{length, take, replicate, length-map}
 use Rattle.automaton.specs.Explore.{numberIn}
 use Rattle.automaton.specs.Join.{classes, minimal}
-use Rattle.tables.specs.States.{states}
-use Rattle.tables.specs.Rows.{rowsIn, TableIn}
+use Rattle.automaton.specs.StateList.{stateList}
+use Rattle.definitions.specs.Rows.{rowsIn, TableIn}
 use Rattle.write.specs.Rows.{numberedRows, StatesBelow}
-use Rattle.tables.specs.Classes.{lastRound}
+use Rattle.refine.specs.Classes.{lastRound}
 use Rattle.number.specs.Numbers.{Joined, classesReached, Numbered}
-use Rattle.tables.proofs.States.{length-states}
+use Rattle.automaton.proofs.StateList.{length-states}
 use Rattle.definitions.proofs.Written.{take-written}
 use Rattle.number.proofs.Classing.{reached-low}
 use Rattle.build.proofs.Books.{order-states, numbered-minimal}
@@ -40,10 +40,10 @@ classed {raw} {n} {w} old {array} ok few same size are =
 
 -- after numbering: what is written, and that it fits
 module _ {raw : List ℕ} {n w : ℕ} {array first order numbers : List ℕ} {k : ℕ} (c : Classed raw n w array) (now : Numbered raw w array first k order numbers) where
-  order-is : take k order ≡ states (classesReached raw w array)
+  order-is : take k order ≡ stateList (classesReached raw w array)
   order-is =
       ap (λ (l : List ℕ). take k l) (now .array)
-      ∙ take-written (states (classesReached raw w array)) first k (length-states (classesReached raw w array) ∙ sym (now .count))
+      ∙ take-written (stateList (classesReached raw w array)) first k (length-states (classesReached raw w array) ∙ sym (now .count))
 
   pub order-low : k ≤ n
   order-low = omega (arith, now .count, reached-low (c .joined), c .left)

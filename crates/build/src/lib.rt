@@ -8,7 +8,7 @@ ghost use Rattle.definitions.specs.Policy.{fields, width, frame};
 ghost use Rattle.definitions.specs.Book.{bookBytes};
 ghost use Rattle.definitions.specs.Refusal.{fileRefusal};
 ghost use Rattle.definitions.specs.Build.{buildAnswer, buildBuffer};
-ghost use Rattle.tables.specs.Rows.{rowsIn, TableIn};
+ghost use Rattle.definitions.specs.Rows.{rowsIn, TableIn};
 ghost use Rattle.build.specs.Built.{builtAnswer};
 use policy::shape::Shape;
 

@@ -76,7 +76,7 @@ passing-books b d buffer p w n ew en =
       first = book-passed b .0 (p .first);
       second = second;
       widthFirst = ew;
-      widthSecond = ew ∙ same-width b d (same-list-true (frame b) (frame d) (p .frames)) (second .layout .fieldsMost);
+      widthSecond = ew ∙ same-width b d (same-list-true (frame b) (frame d) (p .frames)) (second .layout .header .fieldsMost);
       statesFirst = en;
     }
 

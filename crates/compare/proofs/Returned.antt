@@ -31,7 +31,7 @@ difference-small b d buffer h e =
     let is = answer-given (compareRefusal b d buffer) (some h) (comparison b d) e in
     let rows = passing b d buffer (is .0) in
     let short = compare-right b d (rows .first) (rows .second) (same-list-true (frame b) (frame d) (rows .frames)) .short h (sym (is .1)) .1 in
-    (omega (arith, short, book-passed b .0 (rows .first) .layout .statesMost, book-passed d .0 (rows .second) .layout .statesMost), rows .long)
+    (omega (arith, short, book-passed b .0 (rows .first) .layout .header .statesMost, book-passed d .0 (rows .second) .layout .header .statesMost), rows .long)
 
 buffer-no-shorter : (b d buffer : List ℕ) → length buffer ≤ length (compareBuffer b d buffer)
 unfolding compareBuffer

@@ -15,11 +15,12 @@ use Rattle.definitions.specs.Bytes.{byte, hasMark, hasVersion1}
 use Rattle.definitions.specs.Policy.{events, fields, variables, rules, count, requests, width, exactLength, rule, mask, decision, ge, lt, change, eventChange}
 use Rattle.definitions.specs.Valuation.{valuations}
 use Rattle.definitions.specs.Book as B
-use Rattle.definitions.specs.Refusal.{rangesHold, countInRange, countsHold, rulePasses, allRules, maskHolds, ruleMasksHold, masksHold, testHolds, ruleHolds, eventChangeHolds, eventHolds, valuesHold, row10, row9, row8, row7, row6, row5, row4, row3, fileRefusal, situations, row11, policyRefusal, countHolds, layoutHolds, entryHolds, rowHolds, entriesHold, row14, row13, bookRefusal}
+use Rattle.definitions.specs.Refusal.{rangesHold, countInRange, countsHold, rulePasses, allRules, maskHolds, ruleMasksHold, masksHold, testHolds, ruleHolds, eventChangeHolds, eventHolds, valuesHold, row10, row9, row8, row7, row6, row5, row4, row3, fileRefusal, situations, row11, policyRefusal, countHolds, headerHolds, layoutHolds, entryHolds, rowHolds, entriesHold, row14, row13, bookRefusal}
 use Rattle.definitions.proofs.Tests.{both-true, judge-zero, then-judge-zero, within-true, mark-true, version-true}
 use Rattle.definitions.proofs.Radix.{product-some}
 use Rattle.definitions.proofs.Requests.{some-request}
 use Rattle.definitions.proofs.Valuations.{some-valuation}
+use Rattle.definitions.specs.Checked.{BookHeader, BookLayout, BookPassed}
 
 -- a policy file that rows 2 to 10 do not turn down
 pub record FileAccepted (p : List ℕ) : Type 0 where
@@ -47,30 +48,6 @@ pub record FileAccepted (p : List ℕ) : Type 0 where
   pub eventChangeMost : (e j : ℕ) → e < events p → j < variables p → eventChange p e j ≤ 2
   pub valuationsSome : 1 ≤ valuations p
   pub valuationsMost : valuations p ≤ 64
-
--- a book that row 13 does not turn down
-pub record BookLayout (b : List ℕ) : Type 0 where
-  pub eventsMost : B.events b ≤ 8
-  pub fieldsSome : 1 ≤ B.fields b
-  pub fieldsMost : B.fields b ≤ 4
-  pub countSome : (f : ℕ) → f < B.fields b → 1 ≤ B.count b f
-  pub countMost : (f : ℕ) → f < B.fields b → B.count b f ≤ 16
-  pub countAbsent : (f : ℕ) → B.fields b ≤ f → f < 4 → B.count b f ≡ 0
-  pub requestsSome : 1 ≤ B.requests b
-  pub requestsMost : B.requests b ≤ 64
-  pub widthMost : B.width b ≤ 136
-  pub statesSome : 1 ≤ B.states b
-  pub statesMost : B.states b ≤ 127
-  pub exact : length b ≡ 12 + B.states b * B.width b
-
--- a book that rows 12 to 14 do not turn down
-pub record BookPassed (b : List ℕ) : Type 0 where
-  pub long : 12 ≤ length b
-  pub mark : (byte b 0 ≡ 0x42) × (byte b 1 ≡ 0x4F) × (byte b 2 ≡ 0x4B)
-  pub version : (byte b 3 ≡ 0) × (byte b 4 ≡ 1)
-  pub layout : BookLayout b
-  pub entryMost : (s c : ℕ) → 1 ≤ s → s ≤ B.states b → c < B.width b → B.entry b s c ≤ B.states b
-  pub eventEntrySome : (s c : ℕ) → 1 ≤ s → s ≤ B.states b → c < B.events b → 1 ≤ B.entry b s c
 
 -- ---- policies
 module _ (p : List ℕ) where
@@ -178,10 +155,9 @@ module _ (b : List ℕ) where
       go (yes l) = rw (lt-ltb f (B.fields b) l) (within-true 1 (B.count b f) 16 .1 (present l))
       go (no l) = rw (le-ltb f (B.fields b) (omega arith)) (eq-eqb (B.count b f) 0 (absent (omega arith)))
 
-  pub layout-true : layoutHolds b ≡ true → BookLayout b
-  layout-true e =
-      let five = and-true _ _ e in
-      let four = and-true _ _ (five .0) in
+  header-true : headerHolds b ≡ true → BookHeader b
+  header-true e =
+      let four = and-true _ _ e in
       let three = and-true _ _ (four .0) in
       let two = and-true _ _ (three .0) in
       let one = and-true _ _ (two .0) in
@@ -200,17 +176,23 @@ module _ (b : List ℕ) where
         widthMost = omega (arith, leb-true (B.events b) 8 (one .0), leb-true (B.requests b) 64 (three .1));
         statesSome = few .0;
         statesMost = few .1;
-        exact = eqb-true (length b) (12 + B.states b * B.width b) (five .1);
       }
 
-  layout-holds : BookLayout b → layoutHolds b ≡ true
-  layout-holds h =
+  pub layout-true : layoutHolds b ≡ true → BookLayout b
+  layout-true e =
+      let both = and-true _ _ e in
+      record { header = header-true (both .0); exact = eqb-true (length b) (12 + B.states b * B.width b) (both .1) }
+
+  header-holds : BookHeader b → headerHolds b ≡ true
+  header-holds h =
       let one = both-true (le-leb (B.events b) 8 (h .eventsMost)) (within-true 1 (B.fields b) 4 .1 (h .fieldsSome, h .fieldsMost)) in
       let two = all-below (countHolds b) 4 (λ f l. count-holds f (λ m. (h .countSome f m, h .countMost f m)) (λ m. h .countAbsent f m l)) in
       let three = le-leb (B.requests b) 64 (h .requestsMost) in
       let four = within-true 1 (B.states b) 127 .1 (h .statesSome, h .statesMost) in
-      let five = eq-eqb (length b) (12 + B.states b * B.width b) (h .exact) in
-      both-true (both-true (both-true (both-true one two) three) four) five
+      both-true (both-true (both-true one two) three) four
+
+  layout-holds : BookLayout b → layoutHolds b ≡ true
+  layout-holds h = both-true (header-holds (h .header)) (eq-eqb (length b) (12 + B.states b * B.width b) (h .exact))
 
   -- ---- the entries
   entry-true : (s c : ℕ) → entryHolds b s c ≡ true → (B.entry b s c ≤ B.states b) × (c < B.events b → 1 ≤ B.entry b s c)

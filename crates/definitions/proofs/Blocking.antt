@@ -18,11 +18,12 @@ use Rattle.automaton.proofs.Machines.{step-past, after-append, possible-codes}
 use Rattle.automaton.proofs.Exploring.{reached-few}
 use Rattle.automaton.proofs.Earliest.{Explored, reached-explored, Passes, first-earliest, first-none}
 use Rattle.automaton.proofs.Separating.{after-within}
-use Rattle.definitions.specs.Situation.{acceptCode, rejectCode}
+use Rattle.definitions.specs.Codes.{acceptCode, rejectCode}
 use Rattle.definitions.specs.Book.{events, requests, width, states, bookMachine}
-use Rattle.definitions.specs.Verdict.{acceptable, rejectable, answered, someRequest, eventsFrom, isNone, isBlocked}
+use Rattle.definitions.specs.Telling.{acceptable, rejectable, answered, someRequest}
+use Rattle.definitions.specs.Verdict.{eventsFrom, isNone, isBlocked}
 use Rattle.definitions.specs.Demands.{Unanswered, Events, BlockedAfter}
-use Rattle.definitions.proofs.Accepted.{BookPassed}
+use Rattle.definitions.specs.Checked.{BookPassed}
 use Rattle.definitions.proofs.BookSteps.{step-inside, has-states, events-possible}
 
 neither-true : (a c : Bool) → (a || c) ≡ false → (a ≡ false) × (c ≡ false)
@@ -98,7 +99,7 @@ module _ (b : List ℕ) (ok : BookPassed b) (s : ℕ) (inside : s ≤ states b) 
   events-explored : Explored (eventsFrom b s) (reached (eventsFrom b s) 127)
   events-explored =
       reached-explored (eventsFrom b s) 127 state
-      (le-trans (reached-few (eventsFrom b s) 127 state (states b) (events-inside b s ok) inside) (ok .layout .statesMost))
+      (le-trans (reached-few (eventsFrom b s) 127 state (states b) (events-inside b s ok) inside) (ok .layout .header .statesMost))
 
   is-blocked : (isBlocked b s ≡ true) ↔ NoneAnswered b s
   is-blocked =
@@ -112,7 +113,7 @@ module _ (b : List ℕ) (ok : BookPassed b) (h : History) where
   s = after (bookMachine b) 1 h
 
   s-inside : s ≤ states b
-  s-inside = after-within (bookMachine b) (states b) (has-states b ok) 1 (ok .layout .statesSome) h
+  s-inside = after-within (bookMachine b) (states b) (has-states b ok) 1 (ok .layout .header .statesSome) h
 
   answered-after : (es : History) (r : ℕ) → answered b (after (bookMachine b) 1 (h ++ es)) r ≡ answered b (after (bookMachine b) s es) r
   answered-after es r = ap (λ (t : ℕ). answered b t r) (after-append (bookMachine b) 1 h es)

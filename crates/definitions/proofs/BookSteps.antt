@@ -16,7 +16,7 @@ use Rattle.automaton.proofs.Separating.{HasStates}
 use Rattle.definitions.specs.Book.{events, width, states, entry, bookMachine}
 use Rattle.definitions.specs.Demands.{Events}
 use Rattle.definitions.proofs.Steps.{step-next}
-use Rattle.definitions.proofs.Accepted.{BookPassed}
+use Rattle.definitions.specs.Checked.{BookPassed}
 
 -- a state as the code tests it
 pub state-test : (s : ℕ) → not (eqb s 0) ≡ isState s
@@ -53,7 +53,7 @@ module _ (b : List ℕ) (ok : BookPassed b) where
       go false e = omega arith
 
   pub has-states : HasStates (bookMachine b) (states b)
-  has-states = record { start = record { least = omega arith; most = ok .layout .statesSome }; steps = step-inside }
+  has-states = record { start = record { least = omega arith; most = ok .layout .header .statesSome }; steps = step-inside }
 
   -- an event is possible in each state
   event-state : (s e : ℕ) → s ≤ states b → isState s ≡ true → e < events b → isState (step (bookMachine b) s e) ≡ true

@@ -20,7 +20,8 @@ use Rattle.definitions.specs.Book as B
 use Rattle.definitions.specs.Book.{bookBytes, bookMachine}
 use Rattle.definitions.specs.Refusal.{fileRefusal, situations, Accepted, bookRefusal}
 use Rattle.definitions.specs.Build.{bookRows, bookOf}
-use Rattle.definitions.proofs.Accepted.{FileAccepted, file-accepted, policy-accepted, BookLayout, BookPassed, book-passed}
+use Rattle.definitions.proofs.Accepted.{FileAccepted, file-accepted, policy-accepted, book-passed}
+use Rattle.definitions.specs.Checked.{BookHeader, BookLayout, BookPassed}
 use Rattle.definitions.proofs.BookBytes.{states-of-bytes, length-of-bytes, entry-of-bytes, after-of-bytes, policy-count, policy-requests, policy-width}
 use Rattle.definitions.proofs.Steps.{start-below, after-below, event-possible}
 
@@ -57,8 +58,8 @@ module _ (p : List ℕ) (passes : fileRefusal p ≡ 0) (rows : List (List ℕ)) 
   entry-is : (s c : ℕ) → 1 ≤ s → s ≤ length rows → c < P.width p → B.entry b s c ≡ entryIn rows s c
   entry-is = entry-of-bytes (P.frame p) rows refl (P.width p) width-is (isTable .wide)
 
-  layout : BookLayout b
-  layout = record {
+  header : BookHeader b
+  header = record {
     eventsMost = ok .eventsMost;
     fieldsSome = ok .fieldsSome;
     fieldsMost = ok .fieldsMost;
@@ -70,8 +71,10 @@ module _ (p : List ℕ) (passes : fileRefusal p ≡ 0) (rows : List (List ℕ)) 
     widthMost = rw width-is (ok .widthMost);
     statesSome = isTable .some;
     statesMost = few;
-    exact = rw width-is (length-of-bytes (P.frame p) rows refl (P.width p) (isTable .wide));
   }
+
+  layout : BookLayout b
+  layout = record { header = header; exact = rw width-is (length-of-bytes (P.frame p) rows refl (P.width p) (isTable .wide)) }
 
   bytes-pass : BookPassed b
   bytes-pass = record {

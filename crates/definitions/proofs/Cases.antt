@@ -14,7 +14,8 @@ use Rattle.definitions.specs.Refusal.{policyRefusal, situations, bookRef
 use Rattle.definitions.specs.Build.{bookOf, bookRows, buildAnswer, buildBuffer}
 use Rattle.definitions.specs.Verdict.{Found, Findings, findings, verdictAnswer, verdictBuffers}
 use Rattle.definitions.specs.Compare.{comparison, compareAnswer, compareBuffer}
-use Rattle.definitions.specs.Opened.{Telling, none as untold, accept, reject, both, openAnswer, tellAnswer, stepRefusal, stepState}
+use Rattle.definitions.specs.Telling.{Telling, none as untold, accept, reject, both}
+use Rattle.definitions.specs.Opened.{openAnswer, tellAnswer, stepRefusal, stepState}
 use Rattle.definitions.specs.Shelf.{shelfText}
 use Rattle.definitions.specs.Cases.Table.{cases}
 use Rattle.definitions.specs.Cases.Claim.{Claim, number, says, bytes, rows, found, history, builds, finds, compares, tells, Holds, test, sameRows, sameOption, sameAnswer, sameFound, sameFindings, tellingNumber, sameTelling}

@@ -19,7 +19,8 @@ use Rattle.definitions.specs.Book.{fields, count, frame, requests, width
 use Rattle.definitions.specs.Refusal.{bookRefusal}
 use Rattle.definitions.specs.Compare.{comparison}
 use Rattle.definitions.specs.Demands.{InJustOne, CompareIsRight}
-use Rattle.definitions.proofs.Accepted.{BookPassed, book-passed}
+use Rattle.definitions.specs.Checked.{BookPassed}
+use Rattle.definitions.proofs.Accepted.{book-passed}
 use Rattle.definitions.proofs.BookSteps.{has-states}
 
 -- ---- the frame fixes the width
@@ -46,24 +47,24 @@ module _ (b d : List ℕ) (same : frame b ≡ frame d) where
 -- ---- the comparison
 module _ (b d : List ℕ) (first : BookPassed b) (second : BookPassed d) (same : frame b ≡ frame d) where
   wide : width b ≡ width d
-  wide = same-width b d same (second .layout .fieldsMost)
+  wide = same-width b d same (second .layout .header .fieldsMost)
 
   -- a pair of states is at most 127 × 128 + 127
   room : states b * 128 + states d ≤ 16383
-  room = omega (arith, first .layout .statesMost, second .layout .statesMost)
+  room = omega (arith, first .layout .header .statesMost, second .layout .header .statesMost)
 
   compared-none : (comparison b d ≡ none) ↔ SameHistories (bookMachine b) (bookMachine d)
   unfolding comparison
   compared-none =
       difference-none (bookMachine b) (bookMachine d) (states b) (states d) (has-states b first) (has-states d second) wide 128 16383
-      (omega (arith, second .layout .statesMost)) room
+      (omega (arith, second .layout .header .statesMost)) room
 
   compared-some : (h : History) → comparison b d ≡ some h
       → Earliest (Separates (bookMachine b) (bookMachine d)) h × (1 ≤ length h) × (length h < states b + states d)
   unfolding comparison
   compared-some =
       difference-some (bookMachine b) (bookMachine d) (states b) (states d) (has-states b first) (has-states d second) wide 128 16383
-      (omega (arith, second .layout .statesMost)) room
+      (omega (arith, second .layout .header .statesMost)) room
 
   in-just-one : (h : History) → Earliest (Separates (bookMachine b) (bookMachine d)) h → Earliest (InJustOne (bookMachine b) (bookMachine d)) h
   in-just-one h e = (

@@ -46,7 +46,7 @@ demand2 p accepted =
       passes = passes;
       frame = built-frame p accepted;
       size = layout .exact;
-      states = (layout .statesSome, layout .statesMost);
+      states = (layout .header .statesSome, layout .header .statesMost);
     }
 
 -- equal books have equal frames and the same histories

@@ -13,6 +13,9 @@ pub mod Accepted
 pub mod Row11
 pub mod BookBytes
 pub mod BookSteps
+pub mod TableBytes
+pub mod RowsWritten
+pub mod SearchArray
 pub mod Blocking
 pub mod Verdicts
 pub mod Comparisons

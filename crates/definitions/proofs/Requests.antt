@@ -5,7 +5,7 @@ use mathlib.Core.List.{List}
 use Prim.Native.Nat.{ℕ, zero, suc, _+_, _-_, _*_, _%_, _≤_, _<_}
 use native.Mathlib.Omega.{arith}
 use Rattle.definitions.specs.Policy.{fields, count, requests, requestNumber, value}
-use Rattle.definitions.specs.Situation.{acceptCode, rejectCode, requestOf, decisionOf}
+use Rattle.definitions.specs.Codes.{acceptCode, rejectCode, requestOf, decisionOf}
 use Rattle.definitions.proofs.Radix.{product-some, high-below, high-digit, high-digit-below, high-number, high-unique}
 
 module _ (p : List ℕ) where

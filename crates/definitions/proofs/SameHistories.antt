@@ -6,7 +6,7 @@ use mathlib.Core.Option.{Option}
 use Prim.Native.Nat.{ℕ, _<_}
 use Rattle.automaton.specs.History.{History, Earliest}
 use Rattle.automaton.specs.Machine.{Machine, SameHistories, inOne}
-use Rattle.definitions.specs.Situation.{acceptCode, rejectCode}
+use Rattle.definitions.specs.Codes.{acceptCode, rejectCode}
 use Rattle.definitions.specs.Verdict.{Findings}
 use Rattle.definitions.specs.Demands.{Events, FindingIsRight, BlockingIsRight, FindingsAreRight, ComparisonIsRight}
 

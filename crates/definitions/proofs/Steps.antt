@@ -16,7 +16,8 @@ use Rattle.automaton.proofs.Counting.{and-true, all-below, all-below-at, any-be
 use Rattle.automaton.proofs.Machines.{step-past, after-keeps}
 use Rattle.definitions.specs.Policy.{events, fields, variables, rules, width, rule, mask, decision, level, ge, lt, change, eventChange, value}
 use Rattle.definitions.specs.Valuation.{valuations, variableIn, byRule, byEvent}
-use Rattle.definitions.specs.Situation.{maskLets, letsThrough, isBelow, testPasses, enabled, fits, outranks, outranked, applies, startSituation, decides, requestImage, requestOf, decisionOf, image, imageOfSet, policyMachine}
+use Rattle.definitions.specs.Situation.{maskLets, letsThrough, isBelow, testPasses, enabled, fits, outranks, outranked, applies, startSituation, decides, requestImage, image, imageOfSet, policyMachine}
+use Rattle.definitions.specs.Codes.{requestOf, decisionOf}
 use Rattle.definitions.specs.Bytes.{bit}
 use Rattle.definitions.proofs.Tests.{both-true}
 use Rattle.definitions.proofs.Valuations.{some-valuation, carried-out-below}

@@ -15,7 +15,8 @@ use Rattle.definitions.specs.Bytes.{hasMark, hasVersion1, byte}
 use Rattle.definitions.specs.Policy.{events, fields, variables, rules, ruleSize, exactLength}
 use Rattle.definitions.specs.Refusal.{fileRefusal, policyRefusal, row3, row4, row5, row6, rangesHold}
 use Rattle.definitions.specs.Build.{bookOf}
-use Rattle.definitions.specs.Shelf.{decimal, line, refusedWord, bookText, policyText}
+use Rattle.definitions.specs.Decimal.{decimal}
+use Rattle.definitions.specs.Shelf.{line, refusedWord, bookText, policyText}
 use Rattle.definitions.proofs.Accepted.{ranges-true, file-accepted}
 
 exact-short : (p : List ℕ) → events p ≤ 8 → fields p ≤ 4 → variables p ≤ 4 → rules p ≤ 32 → exactLength p < 750

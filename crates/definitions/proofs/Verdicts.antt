@@ -17,12 +17,14 @@ use Rattle.automaton.proofs.Counting.{and-true, any-below, any-below-at, lowest
 use Rattle.automaton.proofs.Machines.{possible-prefix}
 use Rattle.automaton.proofs.Exploring.{reached-few}
 use Rattle.automaton.proofs.Earliest.{Explored, reached-explored, Passes, first-earliest, first-none}
-use Rattle.definitions.specs.Situation.{acceptCode, rejectCode}
+use Rattle.definitions.specs.Codes.{acceptCode, rejectCode}
 use Rattle.definitions.specs.Book.{events, requests, states, bookMachine}
 use Rattle.definitions.specs.Refusal.{bookRefusal}
-use Rattle.definitions.specs.Verdict.{acceptable, rejectable, inConflict, answered, unanswered, someRequest, Found, statesReached, lowestRequest, conflict, missing, isBlocked, historyOf, blocked, findings}
+use Rattle.definitions.specs.Telling.{acceptable, rejectable, inConflict, answered, unanswered, someRequest}
+use Rattle.definitions.specs.Verdict.{Found, statesReached, lowestRequest, conflict, missing, isBlocked, historyOf, blocked, findings}
 use Rattle.definitions.specs.Demands.{ConflictAfter, MissingAfter, BlockedAfter, FindingIsRight, BlockingIsRight, VerdictIsRight}
-use Rattle.definitions.proofs.Accepted.{BookPassed, book-passed}
+use Rattle.definitions.specs.Checked.{BookPassed}
+use Rattle.definitions.proofs.Accepted.{book-passed}
 use Rattle.definitions.proofs.BookSteps.{step-inside}
 use Rattle.definitions.proofs.Blocking.{code-at, unanswered-to, unanswered-from, blocked-to, blocked-from}
 
@@ -153,10 +155,10 @@ module _ (b : List ℕ) (h : History) where
 module _ (b : List ℕ) (ok : BookPassed b) where
   -- at most 127 states are reached, so all of them are
   reached-all : length (statesReached b) ≤ states b
-  reached-all = reached-few (bookMachine b) 127 refl (states b) (step-inside b ok) (ok .layout .statesSome)
+  reached-all = reached-few (bookMachine b) 127 refl (states b) (step-inside b ok) (ok .layout .header .statesSome)
 
   explored : Explored (bookMachine b) (statesReached b)
-  explored = reached-explored (bookMachine b) 127 refl (le-trans reached-all (ok .layout .statesMost))
+  explored = reached-explored (bookMachine b) 127 refl (le-trans reached-all (ok .layout .header .statesMost))
 
   conflict-holds : FindingHolds (ConflictAfter (bookMachine b) (events b)) b (conflict b)
   unfolding conflict

@@ -11,7 +11,8 @@ use lib.ListN.{length, getD, take}
 use Rattle.automaton.specs.History.{History, Earlier, Earliest}
 use Rattle.automaton.specs.Machine.{Machine, after, possible, DistinctStates, SameHistories, inOne}
 use Rattle.definitions.specs.Policy as P
-use Rattle.definitions.specs.Situation.{acceptCode, rejectCode, fits, applies, policyMachine}
+use Rattle.definitions.specs.Codes.{acceptCode, rejectCode}
+use Rattle.definitions.specs.Situation.{fits, applies, policyMachine}
 use Rattle.definitions.specs.Book as B
 use Rattle.definitions.specs.Refusal.{policyRefusal, bookRefusal}
 use Rattle.definitions.specs.Answer.{Answer, refused, given, written, historyBytes}

@@ -9,7 +9,7 @@ use Rattle.definitions.specs.Answer.{judge, thenJudge, Answer, answer}
 use Rattle.definitions.specs.Bytes.{within}
 use Rattle.definitions.specs.Book.{requests, width, states, bookMachine}
 use Rattle.definitions.specs.Refusal.{bookRefusal}
-use Rattle.definitions.specs.Verdict.{acceptable, rejectable}
+use Rattle.definitions.specs.Telling.{acceptable, rejectable, Telling, telling}
 
 -- "Opening takes rows 12 to 14 and starts at state 1"
 unfoldable pub openRefusal : List ℕ → ℕ
@@ -19,19 +19,6 @@ openRefusal b = bookRefusal b
 unfoldable pub openAnswer : List ℕ → Answer ℕ
 unfolding openRefusal
 openAnswer b = answer (openRefusal b) 1
-
--- "It tells, for a request, none, accept, reject or both"
-pub data Telling : Type 0 where
-  none accept reject both : Telling
-
-abbrev pub toTelling : Bool → Bool → Telling
-toTelling true true = both
-toTelling true false = accept
-toTelling false true = reject
-toTelling false false = none
-
-unfoldable pub telling : List ℕ → ℕ → ℕ → Telling
-telling b s r = toTelling (acceptable b s r) (rejectable b s r)
 
 -- "opened state outside 1 to n; request not below Q; code not below w; step not possible"
 abbrev pub stateHolds : List ℕ → ℕ → Bool

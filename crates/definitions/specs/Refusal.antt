@@ -125,10 +125,13 @@ Accepted p = policyRefusal p ≡ 0
 abbrev pub countHolds : List ℕ → ℕ → Bool
 countHolds b f = cond (ltb f (B.fields b)) (within 1 (B.count b f) 16) (eqb (B.count b f) 0)
 
+-- "E, F, a present count, Q or n outside its range; an absent count not 0"
+abbrev pub headerHolds : List ℕ → Bool
+headerHolds b = leb (B.events b) 8 && within 1 (B.fields b) 4 && allBelow 4 (countHolds b) && leb (B.requests b) 64 && within 1 (B.states b) 127
+
+-- the header, and "length not 12 + n × w"
 abbrev pub layoutHolds : List ℕ → Bool
-layoutHolds b =
-    leb (B.events b) 8 && within 1 (B.fields b) 4 && allBelow 4 (countHolds b) && leb (B.requests b) 64 && within 1 (B.states b) 127
-    && eqb (length b) (12 + B.states b * B.width b)
+layoutHolds b = headerHolds b && eqb (length b) (12 + B.states b * B.width b)
 
 -- entry c of row s is at most n, and not 0 for an event
 abbrev pub entryHolds : List ℕ → ℕ → ℕ → Bool

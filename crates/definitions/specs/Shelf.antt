@@ -10,17 +10,7 @@ use Rattle.definitions.specs.Book.{states}
 use Rattle.definitions.specs.Refusal.{policyRefusal}
 use Rattle.definitions.specs.Build.{bookOf}
 use Rattle.definitions.specs.Verdict.{Found, conflict, missing, blocked}
-
--- ---- decimal numbers: those that occur are below 1,000
-abbrev pub digit : ℕ → ℕ
-digit n = 48 + n % 10
-
-abbrev pub decimal : ℕ → List ℕ
-decimal n =
-    let one = digit n ∷ [] in
-    let two = digit (n / 10) ∷ one in
-    let three = digit (n / 100) ∷ two in
-    cond (ltb n 10) one (cond (ltb n 100) two three)
+use Rattle.definitions.specs.Decimal.{decimal}
 
 -- ---- lines: "Parts of a line are one blank apart"
 abbrev pub blank : ℕ

@@ -9,6 +9,7 @@ use Rattle.automaton.specs.Machine.{Machine}
 use Rattle.definitions.specs.Bytes.{bit}
 use Rattle.definitions.specs.Policy.{events, fields, variables, rules, width, rule, mask, decision, level, ge, lt, value}
 use Rattle.definitions.specs.Valuation.{valuations, startValuation, variableIn, byRule, byEvent}
+use Rattle.definitions.specs.Codes.{requestOf, decisionOf}
 
 -- ---- "A rule applies to request r in a valuation if its masks let r through, its tests are true there, and no rule of a greater level fits both"
 
@@ -77,19 +78,7 @@ withRule p r d v k set = let more = insert (byRule p k v) set in cond (decides p
 abbrev pub requestImage : List ℕ → ℕ → ℕ → ℕ → ℕ
 requestImage p r d v = foldBelow (rules p) emptySet (withRule p r d v)
 
--- ---- "A step has a code: event e is e; request r accepted is E + 2r; rejected is E + 2r + 1"
-abbrev pub acceptCode : ℕ → ℕ → ℕ
-acceptCode E r = E + 2 * r
-
-abbrev pub rejectCode : ℕ → ℕ → ℕ
-rejectCode E r = E + 2 * r + 1
-
--- the request and the decision of a code at or above E
-abbrev pub requestOf : ℕ → ℕ → ℕ
-requestOf E c = (c - E) / 2
-
-abbrev pub decisionOf : ℕ → ℕ → ℕ
-decisionOf E c = 1 - (c - E) % 2
+-- ---- steps
 
 -- the valuations that code c leads to from valuation v
 abbrev pub image : List ℕ → ℕ → ℕ → ℕ

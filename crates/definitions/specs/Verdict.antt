@@ -10,31 +10,10 @@ use Rattle.automaton.specs.History.{History}
 use Rattle.automaton.specs.Machine.{Machine, step, isState}
 use Rattle.automaton.specs.Explore.{Reached, reached, firstThat}
 use Rattle.definitions.specs.Answer.{judge, Answer, answer, afterCall, historyBytes}
-use Rattle.definitions.specs.Situation.{acceptCode, rejectCode}
+use Rattle.definitions.specs.Codes.{acceptCode, rejectCode}
 use Rattle.definitions.specs.Book.{events, requests, bookMachine}
 use Rattle.definitions.specs.Refusal.{bookRefusal}
-
--- ---- what is possible at state s of a book
-
-abbrev pub acceptable : List ℕ → ℕ → ℕ → Bool
-acceptable b s r = isState (step (bookMachine b) s (acceptCode (events b) r))
-
-abbrev pub rejectable : List ℕ → ℕ → ℕ → Bool
-rejectable b s r = isState (step (bookMachine b) s (rejectCode (events b) r))
-
--- "some request may be both accepted and rejected (proposition 4)"
-abbrev pub inConflict : List ℕ → ℕ → ℕ → Bool
-inConflict b s r = acceptable b s r && rejectable b s r
-
-abbrev pub answered : List ℕ → ℕ → ℕ → Bool
-answered b s r = acceptable b s r || rejectable b s r
-
--- "some request is unanswered (definition 3)"
-abbrev pub unanswered : List ℕ → ℕ → ℕ → Bool
-unanswered b s r = not (answered b s r)
-
-abbrev pub someRequest : (List ℕ → ℕ → ℕ → Bool) → List ℕ → ℕ → Bool
-someRequest test b s = anyBelow (requests b) (test b s)
+use Rattle.definitions.specs.Telling.{inConflict, answered, unanswered, someRequest}
 
 -- ---- "the earliest such history and, for the first two, the lowest such request"
 pub record Found : Type 0 where

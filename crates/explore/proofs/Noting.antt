@@ -13,8 +13,8 @@ use Rattle.automaton.specs.Below.{placeOf}
 use Rattle.automaton.proofs.Counting.{and-true}
 use Rattle.definitions.specs.Answer.{written}
 use Rattle.definitions.proofs.BookSteps.{is-state}
-use Rattle.tables.specs.States.{numberAmong, addState}
-use Rattle.tables.proofs.States.{number-place, number-low, added-few, added-none, added-known, added-new, number-new}
+use Rattle.automaton.specs.StateList.{numberAmong, addState}
+use Rattle.automaton.proofs.StateList.{number-place, number-low, added-few, added-none, added-known, added-new, number-new}
 use Rattle.explore.specs.Reaches.{Once, isNumber}
 use Rattle.definitions.proofs.Written.{written-take, written-next}
 

@@ -15,13 +15,13 @@ use Rattle.automaton.specs.Table.{table}
 use Rattle.automaton.proofs.Exploring.{Sound}
 use Rattle.automaton.proofs.Tables.{table-length, row-of-table, table-wide}
 use Rattle.definitions.specs.Answer.{written}
-use Rattle.tables.specs.Rows.{laid}
-use Rattle.tables.specs.States.{states, afterCodes, rowAmong}
+use Rattle.definitions.specs.Rows.{laid}
+use Rattle.automaton.specs.StateList.{stateList, afterCodes, rowAmong}
 use Rattle.explore.specs.Reaches.{Once, Visited, allReached, Reaches}
-use Rattle.tables.proofs.States.{length-states}
-use Rattle.tables.proofs.Searched.{Searched, searched-begun, searched-all, searched-low, searched-row, searched-turn, searched-done}
+use Rattle.automaton.proofs.StateList.{length-states}
+use Rattle.definitions.proofs.SearchArray.{Searched, searched-begun, searched-all, searched-low, searched-row, searched-turn, searched-done}
 use Rattle.definitions.proofs.Written.{take-written, written-again}
-use Rattle.tables.proofs.Buffers.{laid-none, laid-front, laid-length, laid-turn}
+use Rattle.definitions.proofs.RowsWritten.{laid-none, laid-front, laid-length, laid-turn}
 use Rattle.explore.proofs.Once.{once-one, once-after}
 use Rattle.automaton.proofs.Loops.{row-within}
 
@@ -48,8 +48,8 @@ pub reaches-from : {m : Machine} {found raw : List ℕ} {r : ℕ} {found′ raw�
     → Reaches m (set found 0 x) raw r found′ raw′ → Reaches m found raw r found′ raw′
 reaches-from {m} {found} x room some reaches = record {
   count = reaches .count;
-  array = λ p. reaches .array p ∙ ap (λ (l : List ℕ). written (states (allReached m)) l) (set-split found 0 x room)
-      ∙ written-again (x ∷ []) (states (allReached m)) found (omega (arith, length-states (allReached m)));
+  array = λ p. reaches .array p ∙ ap (λ (l : List ℕ). written (stateList (allReached m)) l) (set-split found 0 x room)
+      ∙ written-again (x ∷ []) (stateList (allReached m)) found (omega (arith, length-states (allReached m)));
   rows = reaches .rows;
 }
 

@@ -11,13 +11,13 @@ use Rattle.automaton.specs.Machine.{Machine, step}
 use Rattle.automaton.specs.Explore.{visit}
 use Rattle.automaton.proofs.Counting.{length-list-below}
 use Rattle.definitions.specs.Answer.{written}
-use Rattle.tables.specs.States.{states, bare, numberAmong, addState, afterCodes, rowAmong}
+use Rattle.automaton.specs.StateList.{stateList, bare, numberAmong, addState, afterCodes, rowAmong}
 use Rattle.explore.specs.Reaches.{Once, Visited}
-use Rattle.tables.proofs.States.{states-bare, number-states, number-low, added-length, added-few, after-more, after-grows}
+use Rattle.automaton.proofs.StateList.{states-bare, number-states, number-low, added-length, added-few, after-more, after-grows}
 use Rattle.automaton.proofs.Congruence.{list-below-same}
 use Rattle.automaton.proofs.Turns.{visit-grows}
 use Rattle.explore.proofs.Once.{once-after}
-use Rattle.tables.proofs.Searching.{visit-stays}
+use Rattle.automaton.proofs.KeptNumbers.{visit-stays}
 use Rattle.definitions.proofs.Written.{take-written, length-written, written-next, written-again, written-take}
 
 module _ (m : Machine) (s : ℕ) (l : List ℕ) where
@@ -31,7 +31,7 @@ module _ (m : Machine) (s : ℕ) (l : List ℕ) where
       let t = bare s in
       let found = map bare l in
       let whole = visit m t (m .width) found in
-      list-below-same numberAfter (λ c. numberAmong (states whole) (step m s c)) (m .width)
+      list-below-same numberAfter (λ c. numberAmong (stateList whole) (step m s c)) (m .width)
       (λ c b.
       number-states (visit m t (suc c) found) (step m s c)
       ∙ sym (visit-stays m t found c (suc c) whole (omega arith) (visit-grows m t found (suc c) (m .width) b))

@@ -10,7 +10,7 @@ use Rattle.automaton.specs.Explore.{Reached, reached}
 use Rattle.automaton.specs.Table.{table}
 use Rattle.definitions.specs.Answer.{written}
 use Rattle.definitions.specs.Book.{concat}
-use Rattle.tables.specs.States.{states, numberAmong, afterCodes, rowAmong}
+use Rattle.automaton.specs.StateList.{stateList, numberAmong, afterCodes, rowAmong}
 
 -- each number of the list is a state and stands once: its number is its place
 abbrev pub Once : List ℕ → Type 0
@@ -40,5 +40,5 @@ allReached m = reached m 127
 -- nothing is said of the arrays
 pub record Reaches (m : Machine) (found raw : List ℕ) (r : ℕ) (found′ raw′ : List ℕ) : Type 0 where
   pub count : r ≡ atMost 127 (length (allReached m))
-  pub array : 0 < r → found′ ≡ written (states (allReached m)) found
+  pub array : 0 < r → found′ ≡ written (stateList (allReached m)) found
   pub rows : 0 < r → raw′ ≡ written (concat (table m (allReached m))) raw

@@ -6,7 +6,7 @@ ghost use lib.ListN.{length, take};
 ghost use Rattle.automaton.specs.Below.{placeOf};
 ghost use Rattle.definitions.specs.Answer.{written};
 ghost use Rattle.explore.specs.Images.{emptySets, unions, withImages, imagesOfSet, imagesMachine};
-ghost use Rattle.tables.specs.States.{numberAmong, addState};
+ghost use Rattle.automaton.specs.StateList.{numberAmong, addState};
 ghost use Rattle.explore.specs.Reaches.{Once, isNumber, Visited, Reaches};
 use automaton::wide;
 use situation::Situation;

@@ -17,7 +17,8 @@ use Rattle.automaton.specs.Below.{foldBelow}
 use Rattle.automaton.proofs.Counting.{and-true, greatest-below}
 use Rattle.automaton.proofs.Order.{tri}
 use Rattle.definitions.specs.Bytes.{bit}
-use Rattle.definitions.specs.Situation.{emptySet, insert, requestOf, decisionOf}
+use Rattle.definitions.specs.Situation.{emptySet, insert}
+use Rattle.definitions.specs.Codes.{requestOf, decisionOf}
 use Rattle.rules.specs.Tables.{Filled}
 use Rattle.images.specs.Choice.{withDecided, withTarget, withMost, levelIn, greatest, withChosen, chosenBy, leading, Listed, Chosen, chosenFor}
 use Rattle.images.specs.declared.deciding.Choice.{Choice}

@@ -17,7 +17,8 @@ use Rattle.automaton.proofs.Loops.{row-within}
 use Rattle.definitions.specs.Bytes.{bit}
 use Rattle.definitions.specs.Policy.{events, variables, rules, requests, width, rule, decision, change, value}
 use Rattle.definitions.specs.Valuation.{valuations, variableIn, byRule}
-use Rattle.definitions.specs.Situation.{fits, applies, emptySet, insert, withRule, requestImage, requestOf, decisionOf}
+use Rattle.definitions.specs.Situation.{fits, applies, emptySet, insert, withRule, requestImage}
+use Rattle.definitions.specs.Codes.{requestOf, decisionOf}
 use Rattle.definitions.proofs.Valuations.{carried-out-below}
 use Rattle.policy.specs.Sized.{Passed}
 use Rattle.rules.specs.Tables.{entryOf, Tabled, Filled}

@@ -8,7 +8,8 @@ use lib.Dec.{eqb, ltb}
 use lib.ListN.{length, getD}
 use Rattle.automaton.specs.Below.{foldBelow}
 use Rattle.definitions.specs.Bytes.{bit}
-use Rattle.definitions.specs.Situation.{emptySet, insert, requestOf, decisionOf}
+use Rattle.definitions.specs.Situation.{emptySet, insert}
+use Rattle.definitions.specs.Codes.{requestOf, decisionOf}
 use Rattle.images.specs.declared.deciding.Choice.{Choice}
 
 -- every rule of the set has its entries

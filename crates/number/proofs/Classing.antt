@@ -16,12 +16,12 @@ use Rattle.automaton.proofs.Settled.{classes-named}
 use Rattle.automaton.proofs.Joined.{joined-step-class}
 use Rattle.definitions.specs.Answer.{written}
 use Rattle.definitions.specs.Bytes.{byte}
-use Rattle.tables.specs.States.{numberAmong, addState, afterCodes}
-use Rattle.tables.specs.Classes.{rowsWith}
+use Rattle.automaton.specs.StateList.{numberAmong, addState, afterCodes}
+use Rattle.refine.specs.Classes.{rowsWith}
 use Rattle.number.specs.Numbers.{Joined, joinedIn, classesReached, numbersBelow, VisitedClass}
-use Rattle.tables.proofs.States.{states-bare, after-more, after-grows}
+use Rattle.automaton.proofs.StateList.{states-bare, after-more, after-grows}
 use Rattle.definitions.proofs.Steps.{step-next}
-use Rattle.tables.proofs.TableBytes.{rows-count, bytes-are-table, cons-at, entry-is}
+use Rattle.definitions.proofs.TableBytes.{rows-count, bytes-are-table, cons-at, entry-is}
 use Rattle.definitions.proofs.Written.{take-written, length-written, written-take, written-again}
 
 module _ {raw : List ℕ} {w : ℕ} {array : List ℕ} (ok : Joined raw w array) where

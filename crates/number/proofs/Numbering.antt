@@ -13,9 +13,9 @@ use Rattle.automaton.specs.Below.{oneOn, placeOf}
 use Rattle.automaton.specs.Machine.{isState}
 use Rattle.automaton.proofs.Counting.{length-list-below, getD-list-below}
 use Rattle.definitions.specs.Answer.{written}
-use Rattle.tables.specs.States.{numberAmong, addState}
+use Rattle.automaton.specs.StateList.{numberAmong, addState}
 use Rattle.number.specs.Numbers.{numbersBelow}
-use Rattle.tables.proofs.States.{number-place, added-none, added-known, added-new, number-new, number-none}
+use Rattle.automaton.proofs.StateList.{number-place, added-none, added-known, added-new, number-new, number-none}
 use Rattle.definitions.proofs.BookSteps.{is-state}
 use Rattle.definitions.proofs.Written.{written-take, written-next}
 

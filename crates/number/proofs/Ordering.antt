@@ -13,11 +13,11 @@ use Rattle.automaton.proofs.Exploring.{stateAt, historyAt, reached-leads}
 use Rattle.automaton.proofs.Joined.{joined-after-class, joined-start}
 use Rattle.definitions.specs.Answer.{written}
 use Rattle.definitions.specs.Bytes.{byte}
-use Rattle.tables.specs.States.{states, numberAmong, afterCodes}
-use Rattle.tables.specs.Classes.{rowsWith}
+use Rattle.automaton.specs.StateList.{stateList, numberAmong, afterCodes}
+use Rattle.refine.specs.Classes.{rowsWith}
 use Rattle.number.specs.Numbers.{Joined, NamesFirst, joinedIn, classesReached, numbersBelow, stateNumbers, VisitedClass, Numbered}
-use Rattle.tables.proofs.States.{length-states, number-states}
-use Rattle.tables.proofs.Searched.{Searched, searched-begun, searched-all, searched-at, searched-low, searched-turn, searched-done}
+use Rattle.automaton.proofs.StateList.{length-states, number-states}
+use Rattle.definitions.proofs.SearchArray.{Searched, searched-begun, searched-all, searched-at, searched-low, searched-turn, searched-done}
 use Rattle.number.proofs.Classing.{is-table, count, class-low, class-own, reached-low, classes-sound}
 use Rattle.definitions.proofs.Written.{take-written, length-written, written-again}
 
@@ -57,16 +57,16 @@ module _ {raw : List ℕ} {w : ℕ} {array : List ℕ} (ok : Joined raw w array)
       omega (arith, led, class .0, count ok)
 
   -- the number of each state from those of the classes
-  numbers-spread : map (byte (numbersBelow (length array) (states (classesReached raw w array)))) array ≡ stateNumbers raw w array
+  numbers-spread : map (byte (numbersBelow (length array) (stateList (classesReached raw w array)))) array ≡ stateNumbers raw w array
   numbers-spread =
       let L = classesReached raw w array in
-      let f = byte (numbersBelow (length array) (states L)) in
+      let f = byte (numbersBelow (length array) (stateList L)) in
       ext-getD 0 (map f array) (map (numberIn L) array) (length-map array f ∙ sym (length-map array (numberIn L)))
       (λ s b.
       let l : s < length array = omega (arith, length-map array f) in
       let low : byte array s < length array = omega (arith, class-low ok s (omega arith)) in
       getD-map-within f array s 0 0 l
-      ∙ getD-list-below (numberAmong (states L)) (length array) (byte array s) 0 low
+      ∙ getD-list-below (numberAmong (stateList L)) (length array) (byte array s) 0 low
       ∙ number-states L (byte array s)
       ∙ sym (getD-map-within (numberIn L) array s 0 0 l))
 
@@ -104,18 +104,18 @@ module _ {raw : List ℕ} {w : ℕ} {array order₀ order numbers : List ℕ} {k
         }
 
   module _ (all : k ≤ i) where
-    done : (k ≡ length (classesReached raw w array)) × (order ≡ written (states (classesReached raw w array)) order₀)
+    done : (k ≡ length (classesReached raw w array)) × (order ≡ written (stateList (classesReached raw w array)) order₀)
     done = searched-done (now .search) all
 
     -- order₀ began with the start
     pub ordering-done : (first numbers′ : List ℕ) → order₀ ≡ written (1 ∷ []) first → numbers′ ≡ map (byte numbers) array → Numbered raw w array first k order numbers′
     ordering-done first numbers′ eo en =
         let L = classesReached raw w array in
-        let some : 1 ≤ length (states L) = omega (arith, length-states L, now .search .sound .some) in
-        let whole : take k order ≡ states L =
-        ap (λ (l : List ℕ). take k l) (done .1) ∙ take-written (states L) order₀ k (length-states L ∙ sym (done .0)) in
+        let some : 1 ≤ length (stateList L) = omega (arith, length-states L, now .search .sound .some) in
+        let whole : take k order ≡ stateList L =
+        ap (λ (l : List ℕ). take k l) (done .1) ∙ take-written (stateList L) order₀ k (length-states L ∙ sym (done .0)) in
         record {
           count = done .0;
-          array = done .1 ∙ ap (λ (l : List ℕ). written (states L) l) eo ∙ written-again (1 ∷ []) (states L) first some;
+          array = done .1 ∙ ap (λ (l : List ℕ). written (stateList L) l) eo ∙ written-again (1 ∷ []) (stateList L) first some;
           numbers = en ∙ ap (λ (l : List ℕ). map (byte l) array) (now .are ∙ ap (numbersBelow (length array)) whole) ∙ numbers-spread (now .ok);
         }

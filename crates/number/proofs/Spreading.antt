@@ -9,7 +9,7 @@ use lib.Seq.{getD-take, getD-set-other}
 use Rattle.automaton.proofs.WellFormed.{getD-map-within}
 use Rattle.definitions.specs.Bytes.{byte}
 use Rattle.number.specs.Numbers.{NamesFirst}
-use Rattle.tables.proofs.Buffers.{fill-turn, fill-done}
+use Rattle.definitions.proofs.RowsWritten.{fill-turn, fill-done}
 
 -- the states below s have their numbers, the others are as they were
 pub record Spreading (classes old numbers : List ℕ) (s : ℕ) : Type 0 where

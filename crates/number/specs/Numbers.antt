@@ -9,9 +9,9 @@ use Rattle.automaton.specs.Below.{listBelow}
 use Rattle.automaton.specs.Machine.{Machine}
 use Rattle.automaton.specs.Explore.{Reached, numberIn, reached}
 use Rattle.automaton.specs.Join.{joined}
-use Rattle.tables.specs.States.{states, numberAmong, afterCodes}
-use Rattle.tables.specs.Rows.{TableIn}
-use Rattle.tables.specs.Classes.{rowsWith, lastRound}
+use Rattle.automaton.specs.StateList.{stateList, numberAmong, afterCodes}
+use Rattle.definitions.specs.Rows.{TableIn}
+use Rattle.refine.specs.Classes.{rowsWith, lastRound}
 
 -- the array holds the classes of a table's alike states
 pub record Joined (raw : List ℕ) (w : ℕ) (classes : List ℕ) : Type 0 where
@@ -49,5 +49,5 @@ pub record VisitedClass (m : Machine) (s : ℕ) (l order : List ℕ) (k r : ℕ)
 -- the classes that a table's machine reaches are in the array order′, r of them, and numbers′ has the number of each state of the table
 pub record Numbered (raw : List ℕ) (w : ℕ) (classes order : List ℕ) (r : ℕ) (order′ numbers′ : List ℕ) : Type 0 where
   pub count : r ≡ length (classesReached raw w classes)
-  pub array : order′ ≡ written (states (classesReached raw w classes)) order
+  pub array : order′ ≡ written (stateList (classesReached raw w classes)) order
   pub numbers : numbers′ ≡ stateNumbers raw w classes

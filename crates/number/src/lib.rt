@@ -5,7 +5,7 @@ ghost use Prim.Native.Nat.{_+_, _-_, _*_, _<_, _≤_};
 ghost use lib.ListN.{length, take, replicate};
 ghost use Rattle.definitions.specs.Answer.{written};
 ghost use Rattle.definitions.specs.Bytes.{byte};
-ghost use Rattle.tables.specs.States.{addState, afterCodes};
+ghost use Rattle.automaton.specs.StateList.{addState, afterCodes};
 ghost use Rattle.number.specs.Numbers.{Joined, NamesFirst, joinedIn, numbersBelow, VisitedClass, Numbered};
 use automaton::wide;
 

@@ -11,9 +11,10 @@ use lib.ListN.{length, getD, length-map, length-drop}
 use lib.Seq.{getD-drop}
 use Rattle.automaton.specs.History.{History}
 use Rattle.automaton.specs.Machine.{Machine, step}
-use Rattle.automaton.proofs.Labels.{Among}
+use Rattle.automaton.specs.Labels.{Among}
 use Rattle.automaton.proofs.Separating.{HasStates, Answers, after-within}
-use Rattle.automaton.proofs.Comparing.{Queue, Search, pairAt, search-begun, turn-neither, turn-same, turn-new, turn-pair, search-right, search-few, search-alike, search-found}
+use Rattle.automaton.specs.PairQueue.{Queue, Search, pairAt}
+use Rattle.automaton.proofs.Comparing.{search-begun, turn-neither, turn-same, turn-new, turn-pair, search-right, search-few, search-alike, search-found}
 use Rattle.automaton.proofs.Pairs.{difference-is}
 use Rattle.definitions.specs.Book.{states, entry, bookMachine}
 use Rattle.definitions.specs.Compare.{comparison}
@@ -46,19 +47,19 @@ module _ (b d : List ℕ) (w n : ℕ) (B : Books b d w n) where
   of-second = has-states d (B .second)
 
   pub some-states : 1 ≤ n
-  some-states = omega (arith, B .statesFirst, B .first .layout .statesSome)
+  some-states = omega (arith, B .statesFirst, B .first .layout .header .statesSome)
 
   -- what answers the comparison is the comparison
   comparison-is : (o : Option History) → Answers first second o → comparison b d ≡ o
   unfolding comparison
   comparison-is o r =
       difference-is first second (states b) (states d) (has-states b (B .first)) of-second (sym (B .widthFirst) ∙ B .widthSecond) 128 16383
-      (omega (arith, B .second .layout .statesMost)) (omega (arith, B .first .layout .statesMost, B .second .layout .statesMost)) o r
+      (omega (arith, B .second .layout .header .statesMost)) (omega (arith, B .first .layout .header .statesMost, B .second .layout .header .statesMost)) o r
 
 -- ---- the beginning
 module _ (b d : List ℕ) (w n : ℕ) (pairs trail label : List ℕ) (R : Ready b d w n pairs trail label) where
   pub room-begun : n + 2 < length label
-  room-begun = omega (arith, R .roomLabel, R .books .second .layout .statesSome)
+  room-begun = omega (arith, R .roomLabel, R .books .second .layout .header .statesSome)
 
   pub begun : (pairs′ label′ : List ℕ) → pairs′ ≡ placed pairs 0 1 1 → label′ ≡ begunLabels n (length label) (some-states b d w n (R .books)) room-begun
       → Searching b d w n 1 0 0 pairs′ trail label′
@@ -146,7 +147,7 @@ module _ (b d : List ℕ) (w n m i c : ℕ) (pairs trail label : List ℕ) (S : 
       let p = S .search .queue .pairs k l in
       record {
         least = p .left-state .least;
-        most = omega (arith, p .left-after, after-within (bookMachine b) (states b) (has-states b (books .first)) 1 (books .first .layout .statesSome) (pairAt queue k .history), books .statesFirst);
+        most = omega (arith, p .left-after, after-within (bookMachine b) (states b) (has-states b (books .first)) 1 (books .first .layout .header .statesSome) (pairAt queue k .history), books .statesFirst);
       }
 
   pub right-state : (k : ℕ) → k < m → Among (states d) (secondAt pairs k)
@@ -184,9 +185,9 @@ module _ (b d : List ℕ) (w n m i c : ℕ) (pairs trail label : List ℕ) (S : 
             (search-found (bookMachine b) (bookMachine d) (n + 1) (states d) m i c queue (labelAt label) (S .search) l x y steps-left steps-right one);
         writable = record {
           falls = λ j h. S .search .queue .falls j (omega arith);
-          few = omega (arith, few-pairs, books .statesFirst, books .first .layout .statesMost, books .second .layout .statesMost);
+          few = omega (arith, few-pairs, books .statesFirst, books .first .layout .header .statesMost, books .second .layout .header .statesMost);
           roomTrail = omega (arith, few-pairs, S .ready .roomTrail);
-          byte = omega (arith, books .widthFirst, books .first .layout .eventsMost, books .first .layout .requestsMost);
+          byte = omega (arith, books .widthFirst, books .first .layout .header .eventsMost, books .first .layout .header .requestsMost);
         };
       }
 

@@ -5,12 +5,12 @@ use mathlib.Core.Option.{Option, none, some}
 use Prim.Native.Nat.{ℕ, suc, _+_, _-_, _*_, _≤_, _<_}
 use lib.ListN.{length, drop}
 use Rattle.automaton.specs.History.{History}
-use Rattle.automaton.proofs.Labels.{Among}
-use Rattle.automaton.proofs.Parents.{Falls}
-use Rattle.automaton.proofs.Comparing.{Queue, Search}
+use Rattle.automaton.specs.Labels.{Among}
+use Rattle.automaton.specs.Parents.{Falls}
+use Rattle.automaton.specs.PairQueue.{Queue, Search}
 use Rattle.definitions.specs.Book.{width, states, entry, bookMachine}
 use Rattle.definitions.specs.Compare.{comparison}
-use Rattle.definitions.proofs.Accepted.{BookPassed}
+use Rattle.definitions.specs.Checked.{BookPassed}
 use Rattle.search.specs.Trail.{firstAt, secondAt, historyAt}
 use Rattle.labels.specs.Labels.{labelAt, OwnAbove}
 use Rattle.pairs.specs.declared.Tried.{Tried}

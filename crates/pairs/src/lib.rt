@@ -5,7 +5,7 @@ ghost use Prim.Native.Nat.{_+_, _≤_, _<_};
 ghost use lib.ListN.{length, set};
 ghost use Rattle.automaton.specs.Below.{listBelow};
 ghost use Rattle.definitions.specs.Book as Book;
-ghost use Rattle.definitions.proofs.Accepted.{BookLayout};
+ghost use Rattle.definitions.specs.Checked.{BookLayout};
 ghost use Rattle.search.specs.Trail.{placed};
 ghost use Rattle.labels.specs.Labels.{itself};
 ghost use Rattle.labels.specs.Rows.{FirstFailing};

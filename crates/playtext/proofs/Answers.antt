@@ -8,9 +8,12 @@ use lib.ListN.{length, set}
 use borrow.Author.Tests.{eq-eqb, ne-eqb}
 use Rattle.definitions.specs.Answer.{Answer}
 use Rattle.definitions.specs.Book.{fields, requests}
-use Rattle.definitions.specs.Opened.{Telling, tellAnswer}
-use Rattle.definitions.specs.Shelf.{newline, decimal, line, refusedWord}
-use Rattle.definitions.proofs.Accepted.{BookPassed, book-passed}
+use Rattle.definitions.specs.Telling.{Telling}
+use Rattle.definitions.specs.Opened.{tellAnswer}
+use Rattle.definitions.specs.Shelf.{newline, line, refusedWord}
+use Rattle.definitions.specs.Decimal.{decimal}
+use Rattle.definitions.specs.Checked.{BookPassed}
+use Rattle.definitions.proofs.Accepted.{book-passed}
 use Rattle.text.specs.Put.{Put}
 use Rattle.text.proofs.Putting.{then, byte-put}
 use Rattle.walk.proofs.Walking.{tell-inside}
@@ -26,10 +29,10 @@ module _ (b : List ℕ) (s : ℕ) (stands : Stands b s) where
 
   -- what `requests` asks, and its bound
   pub asked : (12 ≤ length b) × (fields b ≤ 4)
-  asked = (book .long, book .layout .fieldsMost)
+  asked = (book .long, book .layout .header .fieldsMost)
 
   pub few : requests b ≤ 64
-  few = book .layout .requestsMost
+  few = book .layout .header .requestsMost
 
   pub tellings-turn : {before out after : List ℕ} {at next end : ℕ} (k : ℕ) (told : Answer Telling) → k < requests b → told ≡ tellAnswer b s k → Put before at (tellingsText b s k) out next
       → Put out next (tellingText told) after end → Put before at (tellingsText b s (k + 1)) after end

@@ -90,7 +90,7 @@ all-tried first tried number z = rw (eq-eqb number 0 z)
 module _ (b : List ℕ) (number state : ℕ) (en : number ≡ openRefusal b) (es : state ≡ openState b) where
   pub open-stands : number ≡ 0 → Stands b state
   unfolding openRefusal
-  open-stands z = record { passes = passes; holds = within-true 1 state (states b) .1 (rw (es ∙ sym starts) (omega arith, book-passed b .0 passes .layout .statesSome)) }
+  open-stands z = record { passes = passes; holds = within-true 1 state (states b) .1 (rw (es ∙ sym starts) (omega arith, book-passed b .0 passes .layout .header .statesSome)) }
     where
       passes : bookRefusal b ≡ 0
       passes = sym en ∙ z

@@ -7,8 +7,10 @@ use lib.Dec.{eqb}
 use Rattle.definitions.specs.Answer.{Answer, refused, given}
 use Rattle.definitions.specs.Book.{requests}
 use Rattle.definitions.specs.Refusal.{bookRefusal}
-use Rattle.definitions.specs.Opened.{Telling, none, accept, reject, both, telling, stateHolds}
-use Rattle.definitions.specs.Shelf.{blank, newline, decimal, line, refusedWord}
+use Rattle.definitions.specs.Telling.{Telling, none, accept, reject, both, telling}
+use Rattle.definitions.specs.Opened.{stateHolds}
+use Rattle.definitions.specs.Shelf.{blank, newline, line, refusedWord}
+use Rattle.definitions.specs.Decimal.{decimal}
 
 -- "none", "accept", "reject", "both"
 abbrev pub tellingWord : Telling → List ℕ

@@ -24,7 +24,7 @@ pub book-small : (p : List ℕ) → Accepted p → length (bookOf p) ≤ 17284
 book-small p accepted =
     let right = demand2 p accepted in
     let layout = book-passed (bookOf p) .0 (right .passes) .layout in
-    omega (arith, right .size, mul-le-mul (layout .statesMost) (layout .widthMost))
+    omega (arith, right .size, mul-le-mul (layout .header .statesMost) (layout .header .widthMost))
 
 -- ---- a refusal's number is at most 15
 judge-small : (number : ℕ) (passes : Bool) (later : ℕ) → number ≤ 15 → later ≤ 15 → judge number passes later ≤ 15

@@ -8,8 +8,8 @@ use lib.Dec.{eqb}
 use lib.ListN.{length}
 use borrow.Author.Tests.{eqb-true, eqb-false, ne-eqb}
 use Rattle.automaton.specs.Join.{classes as alike}
-use Rattle.tables.specs.Rows.{rowsIn, TableIn}
-use Rattle.tables.specs.Classes.{lastRound}
+use Rattle.definitions.specs.Rows.{rowsIn, TableIn}
+use Rattle.refine.specs.Classes.{lastRound}
 use Rattle.refine.specs.Rounds.{InRounds, Stays, oneClass, nextRound}
 use Rattle.refine.specs.Words.{allStates, rowWords, movedStates}
 use Rattle.refine.proofs.StateWords.{none-moved, same-moved}

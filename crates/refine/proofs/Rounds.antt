@@ -16,11 +16,11 @@ use Rattle.automaton.proofs.WellFormed.{IsTable, getD-map-within}
 use Rattle.automaton.proofs.Refining.{NamedByFirst, class-positive, classes-after-named, classes-after}
 use Rattle.definitions.specs.Bytes.{byte}
 use Rattle.definitions.specs.Situation.{emptySet}
-use Rattle.tables.specs.Rows.{rowIn, lookedUp}
-use Rattle.tables.specs.Classes.{rowsWith}
+use Rattle.definitions.specs.Rows.{rowIn, lookedUp}
+use Rattle.refine.specs.Classes.{rowsWith}
 use Rattle.refine.specs.Rounds.{InRounds, nextRound, isFirstAlike}
 use Rattle.refine.specs.Words.{withMoved}
-use Rattle.tables.proofs.TableBytes.{row-is, rows-count, bytes-are-table, cons-at}
+use Rattle.definitions.proofs.TableBytes.{row-is, rows-count, bytes-are-table, cons-at}
 use Rattle.automaton.proofs.Congruence.{map-same}
 
 -- ---- two rows of classes, compared entry by entry

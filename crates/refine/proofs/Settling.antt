@@ -8,13 +8,14 @@ use lib.Dec.{eqb}
 use lib.ListN.{length, getD, take, drop, replicate, length-replicate, getD-replicate, drop-of-length-le}
 use lib.Seq.{take-all}
 use Rattle.automaton.specs.Join.{refine, together, classesAfter, classes}
-use Rattle.automaton.proofs.Counting.{countBelow, count-below-le}
+use Rattle.automaton.specs.Below.{countBelow}
+use Rattle.automaton.proofs.Counting.{count-below-le}
 use Rattle.automaton.proofs.Settled.{classCount, settled-by-count, classes-settled}
 use Rattle.definitions.specs.Bytes.{byte}
-use Rattle.tables.specs.Rows.{rowsIn, TableIn}
-use Rattle.tables.specs.Classes.{rowsWith, lastRound}
+use Rattle.definitions.specs.Rows.{rowsIn, TableIn}
+use Rattle.refine.specs.Classes.{rowsWith, lastRound}
 use Rattle.refine.specs.Rounds.{InRounds, nextRound, oneClass}
-use Rattle.tables.proofs.TableBytes.{rows-count}
+use Rattle.definitions.proofs.TableBytes.{rows-count}
 use Rattle.refine.proofs.Rounds.{is-table, next-is, next-length}
 
 -- ---- before the first round

@@ -8,8 +8,8 @@ use lib.Bits.{bitAnd, bitOr}
 use lib.ListN.{length, drop}
 use Rattle.automaton.proofs.Counting.{length-list-below, getD-list-below}
 use Rattle.definitions.specs.Bytes.{byte, bit}
-use Rattle.tables.specs.Rows.{lookedUp}
-use Rattle.tables.proofs.TableBytes.{row-fits, state-entries}
+use Rattle.definitions.specs.Rows.{lookedUp}
+use Rattle.definitions.proofs.TableBytes.{row-fits, state-entries}
 use Rattle.refine.specs.Rounds.{InRounds, Stays, nextRound}
 use Rattle.refine.specs.Words.{allStates, rowWord, rowWords, movedStates}
 use Rattle.refine.proofs.StateWords.{first-misses, second-misses, leads-has, all-have, unmoved}

@@ -9,8 +9,8 @@ use lib.ListN.{length, drop, replicate}
 use Rattle.automaton.specs.Below.{sameList}
 use Rattle.automaton.specs.Join.{refine, classesAfter}
 use Rattle.definitions.specs.Bytes.{byte}
-use Rattle.tables.specs.Rows.{lookedUp, TableIn}
-use Rattle.tables.specs.Classes.{rowsWith}
+use Rattle.definitions.specs.Rows.{lookedUp, TableIn}
+use Rattle.refine.specs.Classes.{rowsWith}
 
 -- the array holds the classes of a table after some number of rounds
 pub record InRounds (raw : List ℕ) (w : ℕ) (classes : List ℕ) : Type 0 where

@@ -4,7 +4,7 @@ ghost use mathlib.Core.Bool.{cond, not};
 ghost use Prim.Native.Nat.{_<_, _≤_};
 ghost use lib.Dec.{eqb};
 ghost use lib.ListN.{length};
-ghost use Rattle.tables.specs.Rows.{TableIn, EntriesBelow};
+ghost use Rattle.definitions.specs.Rows.{TableIn, EntriesBelow};
 ghost use Rattle.refine.specs.Words.{withState, leadsTo, rowWords};
 use automaton::wide;
 

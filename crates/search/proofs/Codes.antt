@@ -13,7 +13,7 @@ use Rattle.automaton.proofs.Machines.{step-past}
 use Rattle.automaton.proofs.Exploring.{stateAt, historyAt, reached-sound, reached-leads, reached-few}
 use Rattle.automaton.proofs.Separating.{HasStates, after-within}
 use Rattle.definitions.specs.Book.{width, states, entry}
-use Rattle.definitions.proofs.Accepted.{BookPassed}
+use Rattle.definitions.specs.Checked.{BookPassed}
 use Rattle.definitions.proofs.BookSteps.{is-state, state-is, step-is-entry, step-inside}
 use Rattle.search.specs.Found.{codesFrom, statesFrom}
 

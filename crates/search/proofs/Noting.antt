@@ -15,7 +15,8 @@ use Rattle.automaton.specs.Explore.{Reached, isAt, numberIn, add, unreached}
 use Rattle.automaton.proofs.Counting.{length-list-below, getD-list-below, place-other}
 use Rattle.automaton.proofs.Exploring.{number-end}
 use Rattle.automaton.proofs.Congruence.{list-below-same}
-use Rattle.automaton.proofs.Parents.{Falls, Stored, trail-same, trail-last, falls-stored}
+use Rattle.automaton.specs.Parents.{Falls}
+use Rattle.automaton.proofs.Parents.{Stored, trail-same, trail-last, falls-stored}
 use Rattle.definitions.specs.Bytes.{byte}
 use Rattle.search.specs.Trail.{firstAt, secondAt, placed, historyAt}
 use Rattle.search.specs.Found.{reachedAt, foundIn, markOf, Searching}

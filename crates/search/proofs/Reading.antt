@@ -8,7 +8,7 @@ use Rattle.automaton.specs.Machine.{after}
 use Rattle.automaton.specs.Explore.{Reached, unreached}
 use Rattle.definitions.specs.Bytes.{byte}
 use Rattle.definitions.specs.Book.{width, states}
-use Rattle.definitions.proofs.Accepted.{BookPassed}
+use Rattle.definitions.specs.Checked.{BookPassed}
 use Rattle.search.specs.Trail.{historyAt}
 use Rattle.search.specs.Found.{codesFrom, statesFrom, reachedAt, Holds}
 use Rattle.search.proofs.Codes.{states-few, states-inside, states-lead}

@@ -6,7 +6,8 @@ use native.Mathlib.Omega.{arith}
 use lib.ListN.{length, set, drop, length-append, length-set}
 use lib.Seq.{drop-cons, drop-set-lt, getD-set-same, getD-set-other}
 use Rattle.automaton.specs.History.{History}
-use Rattle.automaton.proofs.Parents.{Falls, Stored, trail-start, trail-step, trail-length}
+use Rattle.automaton.specs.Parents.{Falls}
+use Rattle.automaton.proofs.Parents.{Stored, trail-start, trail-step, trail-length}
 use Rattle.definitions.specs.Answer.{written}
 use Rattle.search.specs.Trail.{firstAt, secondAt, placed, historyAt}
 

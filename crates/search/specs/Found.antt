@@ -7,7 +7,7 @@ use lib.ListN.{length}
 use Rattle.automaton.specs.Below.{listBelow}
 use Rattle.automaton.specs.Machine.{Machine, isState}
 use Rattle.automaton.specs.Explore.{Reached, numberIn, reached}
-use Rattle.automaton.proofs.Parents.{Falls}
+use Rattle.automaton.specs.Parents.{Falls}
 use Rattle.definitions.specs.Bytes.{byte}
 use Rattle.definitions.specs.Book.{entry}
 use Rattle.search.specs.Trail.{firstAt, historyAt}

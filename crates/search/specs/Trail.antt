@@ -3,7 +3,7 @@ use mathlib.Core.List.{List}
 use Prim.Native.Nat.{ℕ, _+_, _*_}
 use lib.ListN.{getD, set}
 use Rattle.automaton.specs.History.{History}
-use Rattle.automaton.proofs.Parents.{trail}
+use Rattle.automaton.specs.Parents.{trail}
 
 abbrev pub firstAt : List ℕ → ℕ → ℕ
 firstAt places k = getD places (2 * k) 0

@@ -7,7 +7,7 @@ ghost use lib.ListN.{length};
 ghost use Rattle.automaton.specs.Explore.{add, visit as visited};
 ghost use Rattle.definitions.specs.Book as Book;
 ghost use Rattle.definitions.specs.Bytes.{byte};
-ghost use Rattle.definitions.proofs.Accepted.{BookPassed};
+ghost use Rattle.definitions.specs.Checked.{BookPassed};
 ghost use Rattle.search.specs.Trail.{historyAt};
 ghost use Rattle.search.specs.Found.{codesFrom, statesFrom, reachedAt, foundIn, Searching, Holds};
 use crate::trail::put;

@@ -3,7 +3,7 @@ ghost use mathlib.Core.Path.{_≡_};
 ghost use Prim.Native.Nat.{suc, _+_, _*_, _≤_, _<_};
 ghost use lib.ListN.{length};
 ghost use Rattle.definitions.specs.Answer.{written};
-ghost use Rattle.automaton.proofs.Parents.{Falls};
+ghost use Rattle.automaton.specs.Parents.{Falls};
 ghost use Rattle.search.specs.Trail.{firstAt, placed, historyAt};
 use automaton::wide;
 

@@ -3,7 +3,8 @@ use mathlib.Core.List.{List, [], _++_}
 use Prim.Native.Nat.{ℕ}
 use Rattle.definitions.specs.Answer.{Answer, refused, given}
 use Rattle.definitions.specs.Verdict.{Findings}
-use Rattle.definitions.specs.Shelf.{decimal, line, foundText, blockedText, statesWord, conflictWord, missingWord, blockedWord}
+use Rattle.definitions.specs.Decimal.{decimal}
+use Rattle.definitions.specs.Shelf.{line, foundText, blockedText, statesWord, conflictWord, missingWord, blockedWord}
 
 -- the four lines of a book with n states
 abbrev pub findingsText : ℕ → Findings → List ℕ

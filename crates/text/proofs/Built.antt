@@ -11,7 +11,8 @@ use borrow.Author.Tests.{le-leb}
 use Rattle.definitions.specs.Answer.{Answer, answer, afterCall}
 use Rattle.definitions.specs.Refusal.{bookRefusal, policyRefusal}
 use Rattle.definitions.specs.Build.{bookOf, buildRefusal, buildAnswer, buildBuffer}
-use Rattle.definitions.specs.Shelf.{decimal, line, refusedWord}
+use Rattle.definitions.specs.Decimal.{decimal}
+use Rattle.definitions.specs.Shelf.{line, refusedWord}
 use Rattle.definitions.proofs.Demands.{demand2}
 use Rattle.text.specs.Put.{Put}
 use Rattle.text.specs.Built.{refusalOr, builtText, BuiltPasses}

@@ -6,7 +6,8 @@ use native.Mathlib.Nat.{add-zero}
 use native.Mathlib.Numerals.{add-one}
 use lib.ListN.{length, getD, take}
 use lib.Seq.{take-suc, take-length}
-use Rattle.definitions.specs.Shelf.{blank, decimal, codesText}
+use Rattle.definitions.specs.Shelf.{blank, codesText}
+use Rattle.definitions.specs.Decimal.{decimal}
 use Rattle.text.specs.Put.{Put}
 use Rattle.text.specs.Each.{eachText}
 use Rattle.text.proofs.Putting.{then}

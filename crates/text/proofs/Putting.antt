@@ -8,7 +8,8 @@ use native.Mathlib.Omega.{arith}
 use lib.ListN.{length, getD, set, take, length-append}
 use lib.Seq.{sets, length-sets, take-suc, take-length, append-snoc}
 use borrow.Author.Tests.{lt-ltb, le-ltb}
-use Rattle.definitions.specs.Shelf.{digit, blank, newline, decimal, line}
+use Rattle.definitions.specs.Decimal.{digit, decimal}
+use Rattle.definitions.specs.Shelf.{blank, newline, line}
 use Rattle.text.specs.Put.{Put}
 
 sets-append : (xs ys l : List ℕ) (i : ℕ) → sets l i (xs ++ ys) ≡ sets (sets l i xs) (i + length xs) ys

@@ -8,7 +8,8 @@ use lib.ListN.{length, take}
 use Rattle.definitions.specs.Answer.{Answer, refused, given}
 use Rattle.definitions.specs.Refusal.{bookRefusal, policyRefusal}
 use Rattle.definitions.specs.Build.{bookOf}
-use Rattle.definitions.specs.Shelf.{decimal, line, refusedWord}
+use Rattle.definitions.specs.Decimal.{decimal}
+use Rattle.definitions.specs.Shelf.{line, refusedWord}
 
 unfoldable pub refusalOr : (List ℕ → List ℕ) → List ℕ → List ℕ
 unfolding policyRefusal bookOf

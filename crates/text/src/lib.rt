@@ -3,7 +3,8 @@ ghost use mathlib.Core.Path.{_≡_};
 ghost use mathlib.Core.List.{[], _∷_, _++_};
 ghost use Prim.Native.Nat.{_+_, _*_, _≤_};
 ghost use lib.ListN.{length};
-ghost use Rattle.definitions.specs.Shelf.{digit as digitOf, decimal, blank, codesText, line};
+ghost use Rattle.definitions.specs.Decimal.{digit as digitOf, decimal};
+ghost use Rattle.definitions.specs.Shelf.{blank, codesText, line};
 ghost use Rattle.text.specs.Put.{Put};
 use automaton::wide;
 

@@ -18,9 +18,11 @@ use Rattle.definitions.specs.Bytes.{byte}
 use Rattle.definitions.specs.Book.{events, requests, width, states, entry, bookMachine}
 use Rattle.definitions.specs.Refusal.{bookRefusal}
 use Rattle.definitions.specs.Demands.{Events, BlockedAfter}
-use Rattle.definitions.specs.Verdict.{someRequest, answered, isBlocked, historyOf}
+use Rattle.definitions.specs.Telling.{someRequest, answered}
+use Rattle.definitions.specs.Verdict.{isBlocked, historyOf}
 use Rattle.definitions.proofs.Written.{written-read}
-use Rattle.definitions.proofs.Accepted.{BookPassed, book-passed}
+use Rattle.definitions.specs.Checked.{BookPassed}
+use Rattle.definitions.proofs.Accepted.{book-passed}
 use Rattle.definitions.proofs.BookSteps.{is-state, state-is, has-states, step-is-entry}
 use Rattle.definitions.proofs.Blocking.{unanswered-to, unanswered-from, blocked-to, blocked-from}
 use Rattle.search.specs.Trail as Trail
@@ -70,7 +72,7 @@ module _ (b : List ℕ) (refusal : bookRefusal b ≡ 0) (marks : List ℕ) (M : 
   least = state-is s here
 
   few : s ≤ states b
-  few = after-within (bookMachine b) (states b) (has-states b ok) 1 (ok .layout .statesSome) h
+  few = after-within (bookMachine b) (states b) (has-states b ok) 1 (ok .layout .header .statesSome) h
 
   later : (es : History) (r : ℕ) → answered b (after (bookMachine b) 1 (h ++ es)) r ≡ answered b (after (bookMachine b) s es) r
   later es r = ap (λ (t : ℕ). answered b t r) (after-append (bookMachine b) 1 h es)
@@ -106,8 +108,8 @@ module _ (b : List ℕ) (refusal : bookRefusal b ≡ 0) (marks : List ℕ) (M : 
   blocked-at k l =
       let h = Trail.historyAt trail k in
       let led : after (bookMachine b) 1 h ≡ byte order k =
-      subst (λ (v : ℕ). after (codesFrom b v 1) 1 h ≡ byte order k) ew (holds-lead b p w (omega arith) 1 (omega arith) (p .layout .statesSome) n order trail H k l) in
-      let state = holds-inside b p w (omega arith) 1 (omega arith) (p .layout .statesSome) n order trail H k l in
+      subst (λ (v : ℕ). after (codesFrom b v 1) 1 h ≡ byte order k) ew (holds-lead b p w (omega arith) 1 (omega arith) (p .layout .header .statesSome) n order trail H k l) in
+      let state = holds-inside b p w (omega arith) 1 (omega arith) (p .layout .header .statesSome) n order trail H k l in
       subst (λ (s : ℕ). isBlocked b s ≡ not (marked marks s)) led (blocked-is b refusal marks M S h (ap isState led ∙ is-state (byte order k) (state .0)))
 
   blocked-none : n ≤ lowestBelow n (unmarkedAt marks order) → blockedIn b L ≡ none

@@ -11,14 +11,14 @@ use native.Mathlib.Omega.{arith}
 use lib.ListN.{length, set, length-set}
 use lib.Seq.{getD-set-same, getD-set-other}
 use borrow.Author.Tests.{not-true}
-use Rattle.automaton.specs.Below.{anyBelow}
+use Rattle.automaton.specs.Below.{anyBelow, one}
 use Rattle.automaton.specs.Machine.{isState}
-use Rattle.automaton.proofs.Counting.{below-suc, and-true, any-below-at, one, count-below-le, count-below-grows}
+use Rattle.automaton.proofs.Counting.{below-suc, and-true, any-below-at, count-below-le, count-below-grows}
 use Rattle.definitions.specs.Bytes.{byte}
 use Rattle.definitions.specs.Book.{events, states, entry}
 use Rattle.definitions.specs.Demands.{Events}
-use Rattle.definitions.specs.Verdict.{someRequest, answered}
-use Rattle.definitions.proofs.Accepted.{BookPassed}
+use Rattle.definitions.specs.Telling.{someRequest, answered}
+use Rattle.definitions.specs.Checked.{BookPassed}
 use Rattle.definitions.proofs.BookSteps.{step-is-entry}
 use Rattle.verdict.specs.Marks.{marked, countMarks, leadsToMark, gains, withGain, AnswersLater, Marks, Settled}
 
@@ -85,7 +85,7 @@ module _ (marks : List ℕ) (s : ℕ) (room : s < length marks) where
 
 module _ (b : List ℕ) (p : BookPassed b) (marks : List ℕ) (M : Marks b marks) (s : ℕ) (some : 1 ≤ s) (few : s ≤ states b) where
   inside : s < 128
-  inside = omega (arith, p .layout .statesMost)
+  inside = omega (arith, p .layout .header .statesMost)
 
   -- an event leads to a state from which a request is answered later
   answers-before : (c : ℕ) → c < events b → AnswersLater b (entry b s c) → AnswersLater b s

@@ -13,7 +13,8 @@ use Rattle.automaton.proofs.Counting.{below-suc, lowest-below}
 use Rattle.definitions.specs.Answer.{written, historyBytes}
 use Rattle.definitions.specs.Bytes.{byte}
 use Rattle.definitions.specs.Book.{requests}
-use Rattle.definitions.specs.Verdict.{someRequest, Found, foundHistory}
+use Rattle.definitions.specs.Telling.{someRequest}
+use Rattle.definitions.specs.Verdict.{Found, foundHistory}
 use Rattle.definitions.proofs.Written.{written-read}
 use Rattle.search.specs.Trail.{historyAt}
 use Rattle.search.specs.Found.{reachedAt, foundIn}

@@ -7,7 +7,7 @@ use native.Mathlib.Omega.{arith}
 use lib.Dec.{eqb}
 use Rattle.automaton.specs.Below.{anyBelow, lowestBelow}
 use Rattle.definitions.specs.Book.{events, requests, entry}
-use Rattle.definitions.specs.Verdict.{someRequest}
+use Rattle.definitions.specs.Telling.{someRequest}
 use Rattle.definitions.proofs.BookSteps.{state-test, step-is-entry}
 use Rattle.verdict.specs.Requests.{soughtBy, testOf}
 use Rattle.verdict.specs.declared.requests.Sought.{Sought}

@@ -10,7 +10,8 @@ use Rattle.definitions.specs.Answer.{given}
 use Rattle.definitions.specs.Refusal.{bookRefusal}
 use Rattle.definitions.specs.Verdict.{Found, Findings, findings, verdictRefusal, verdictAnswer}
 use Rattle.definitions.specs.Demands.{VerdictIsRight}
-use Rattle.definitions.proofs.Accepted.{BookLayout, book-passed}
+use Rattle.definitions.specs.Checked.{BookLayout}
+use Rattle.definitions.proofs.Accepted.{book-passed}
 use Rattle.definitions.proofs.Answers.{answer-given}
 use Rattle.definitions.proofs.Demands.{verdict-right}
 use Rattle.verdict.proofs.Judging.{Passing, passing}
@@ -34,10 +35,10 @@ module _ (b : List ℕ) (passes : bookRefusal b ≡ 0) where
   unfolding findings
   findings-small = record {
     ofConflict = λ t e.
-        (omega (arith, right .conflict-short t e, layout .statesMost), omega (arith, right .findings .conflict-right .request t e .0, layout .requestsMost));
+        (omega (arith, right .conflict-short t e, layout .header .statesMost), omega (arith, right .findings .conflict-right .request t e .0, layout .header .requestsMost));
     ofMissing = λ t e.
-        (omega (arith, right .missing-short t e, layout .statesMost), omega (arith, right .findings .missing-right .request t e .0, layout .requestsMost));
-    ofBlocked = λ h e. omega (arith, right .blocked-short h e, layout .statesMost);
+        (omega (arith, right .missing-short t e, layout .header .statesMost), omega (arith, right .findings .missing-right .request t e .0, layout .header .requestsMost));
+    ofBlocked = λ h e. omega (arith, right .blocked-short h e, layout .header .statesMost);
   }
 
 -- findings are given only where no row turns the call down

@@ -5,15 +5,15 @@ use mathlib.Core.List.{List}
 use mathlib.Core.Option.{Option}
 use Prim.Native.Nat.{ℕ, _≤_}
 use lib.ListN.{length, set}
-use Rattle.automaton.specs.Below.{anyBelow}
+use Rattle.automaton.specs.Below.{anyBelow, countBelow}
 use Rattle.automaton.specs.History.{History}
 use Rattle.automaton.specs.Machine.{after, isState}
 use Rattle.automaton.specs.Explore.{Reached, firstThat}
-use Rattle.automaton.proofs.Counting.{countBelow}
 use Rattle.definitions.specs.Bytes.{byte}
 use Rattle.definitions.specs.Book.{events, states, entry, bookMachine}
 use Rattle.definitions.specs.Demands.{Events}
-use Rattle.definitions.specs.Verdict.{someRequest, answered, isBlocked, historyOf}
+use Rattle.definitions.specs.Telling.{someRequest, answered}
+use Rattle.definitions.specs.Verdict.{isBlocked, historyOf}
 
 abbrev pub marked : List ℕ → ℕ → Bool
 marked marks s = isState (byte marks s)

@@ -6,7 +6,8 @@ use Prim.Native.Nat.{ℕ, _≤_, _<_}
 use Rattle.automaton.specs.Explore.{Reached, firstThat}
 use Rattle.definitions.specs.Bytes.{byte}
 use Rattle.definitions.specs.Book.{states}
-use Rattle.definitions.specs.Verdict.{acceptable, rejectable, someRequest, Found, lowestRequest}
+use Rattle.definitions.specs.Telling.{acceptable, rejectable, someRequest}
+use Rattle.definitions.specs.Verdict.{Found, lowestRequest}
 use Rattle.verdict.specs.declared.requests.Sought.{Sought}
 use Rattle.verdict.specs.declared.requests.Sought.the-variants.{Conflict, Missing, Answer}
 

@@ -3,11 +3,10 @@
 ghost use mathlib.Core.Path.{_≡_};
 ghost use Prim.Native.Nat.{_+_, _≤_};
 ghost use lib.ListN.{length};
-ghost use Rattle.automaton.specs.Below.{anyBelow};
-ghost use Rattle.automaton.proofs.Counting.{one};
+ghost use Rattle.automaton.specs.Below.{anyBelow, one};
 ghost use Rattle.definitions.specs.Book as Book;
-ghost use Rattle.definitions.specs.Verdict.{someRequest, answered};
-ghost use Rattle.definitions.proofs.Accepted.{BookPassed};
+ghost use Rattle.definitions.specs.Telling.{someRequest, answered};
+ghost use Rattle.definitions.specs.Checked.{BookPassed};
 ghost use Rattle.verdict.specs.Marks.{leadsToMark, gains, withGain, countMarks, Marks, Settled};
 use crate::requests::Sought;
 use crate::requests::lowest;

@@ -3,7 +3,7 @@ ghost use mathlib.Core.Path.{_≡_};
 ghost use Prim.Native.Nat.{_≤_};
 ghost use Rattle.automaton.specs.Below.{lowestBelow};
 ghost use Rattle.definitions.specs.Book as Book;
-ghost use Rattle.definitions.proofs.Accepted.{BookPassed};
+ghost use Rattle.definitions.specs.Checked.{BookPassed};
 ghost use Rattle.verdict.specs.Requests.{soughtBy, testOf};
 use book::entry;
 use book::events;

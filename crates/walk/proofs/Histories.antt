@@ -13,7 +13,8 @@ use Rattle.definitions.specs.Answer.{judge}
 use Rattle.definitions.specs.Book.{width, states, bookMachine}
 use Rattle.definitions.specs.Refusal.{bookRefusal}
 use Rattle.definitions.specs.Opened.{stateHolds, stepRefusal, stepState, walkState, walkHistory}
-use Rattle.definitions.proofs.Accepted.{BookPassed, book-passed}
+use Rattle.definitions.specs.Checked.{BookPassed}
+use Rattle.definitions.proofs.Accepted.{book-passed}
 use Rattle.definitions.proofs.Tests.{judge-zero, then-judge-zero}
 use Rattle.definitions.proofs.BookSteps.{is-state, state-is, step-inside}
 
@@ -79,4 +80,4 @@ walked b e cs = go (book-passed b .0 e)
         leads = walk-leads b 1 cs
 
         within : IsState b (walkState b 1 cs)
-        within = walk-within b p 1 cs (omega arith, p .layout .statesSome)
+        within = walk-within b p 1 cs (omega arith, p .layout .header .statesSome)

@@ -10,7 +10,8 @@ use Rattle.automaton.specs.Machine.{step, isState}
 use Rattle.definitions.specs.Answer.{refused, given}
 use Rattle.definitions.specs.Book.{events, requests, width, entry, bookMachine}
 use Rattle.definitions.specs.Refusal.{bookRefusal}
-use Rattle.definitions.specs.Opened.{toTelling, telling, stateHolds, openRefusal, tellRefusal, tellAnswer, stepRefusal, stepState}
+use Rattle.definitions.specs.Telling.{toTelling, telling}
+use Rattle.definitions.specs.Opened.{stateHolds, openRefusal, tellRefusal, tellAnswer, stepRefusal, stepState}
 use Rattle.walk.specs.Walk.{openState}
 use Rattle.definitions.proofs.Answers.{refused-answer}
 use Rattle.definitions.proofs.BookSteps.{state-test, is-state, step-is-entry}

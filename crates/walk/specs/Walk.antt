@@ -4,7 +4,8 @@ use mathlib.Core.List.{List}
 use Prim.Native.Nat.{ℕ}
 use lib.Dec.{eqb}
 use Rattle.definitions.specs.Answer.{Answer, refused, given}
-use Rattle.definitions.specs.Opened.{Telling, none, accept, reject, both, openRefusal}
+use Rattle.definitions.specs.Telling.{Telling, none, accept, reject, both}
+use Rattle.definitions.specs.Opened.{openRefusal}
 use Rattle.walk.specs.declared.Told.{Told}
 use Rattle.walk.specs.declared.Told.the-variants.{Refused, None, Accept, Reject, Both}
 

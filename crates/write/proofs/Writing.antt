@@ -11,12 +11,12 @@ use Rattle.definitions.specs.Answer.{written}
 use Rattle.definitions.specs.Bytes.{byte}
 use Rattle.definitions.specs.Policy.{frame, presentCount}
 use Rattle.definitions.specs.Book.{concat, bookBytes}
-use Rattle.tables.specs.Rows.{lookedUp, laid, TableIn}
+use Rattle.definitions.specs.Rows.{lookedUp, laid, TableIn}
 use Rattle.write.specs.Rows.{numberedRow, numberedRows, bookHeader, StatesBelow}
 use Rattle.definitions.proofs.Written.{written-next}
 use Rattle.definitions.proofs.BookBytes.{length-of-bytes}
-use Rattle.tables.proofs.Buffers.{laid-after}
-use Rattle.tables.proofs.TableBytes.{state-row}
+use Rattle.definitions.proofs.RowsWritten.{laid-after}
+use Rattle.definitions.proofs.TableBytes.{state-row}
 
 -- ---- one row
 module _ (table row : List ℕ) where

@@ -4,7 +4,7 @@ use Prim.Native.Nat.{ℕ, _-_, _*_, _≤_, _<_}
 use lib.ListN.{length, drop}
 use Rattle.definitions.specs.Bytes.{byte}
 use Rattle.definitions.specs.Policy.{frame}
-use Rattle.tables.specs.Rows.{lookedUp}
+use Rattle.definitions.specs.Rows.{lookedUp}
 
 -- the array holds states of which each is below k
 abbrev pub StatesBelow : List ℕ → ℕ → Type 0

@@ -5,7 +5,7 @@ ghost use lib.ListN.{length};
 ghost use Rattle.definitions.specs.Answer.{written};
 ghost use Rattle.definitions.specs.Policy.{fields, presentCount, frame};
 ghost use Rattle.definitions.specs.Book.{bookBytes};
-ghost use Rattle.tables.specs.Rows.{lookedUp, laid, TableIn, EntriesBelow};
+ghost use Rattle.definitions.specs.Rows.{lookedUp, laid, TableIn, EntriesBelow};
 ghost use Rattle.write.specs.Rows.{numberedRows, bookHeader, StatesBelow};
 use automaton::wide;
 

@@ -66,7 +66,7 @@ events-requires : tie.Need-events-requires Inv-loop μ-loop
 events-requires c κs = search needs
 
 leads-on-requires : tie.Need-leads-on-requires Inv-loop μ-loop
-leads-on-requires c κs = omega (arith, c .before .before .before .loop .inv .1 .eight, c .before .before .before .before .before .before .before .pre .0 .eventsMost)
+leads-on-requires c κs = omega (arith, c .before .before .before .loop .inv .1 .eight, c .before .before .before .before .before .before .before .pre .0 .header .eventsMost)
 
 returns : tie.Need-returns Inv-loop μ-loop
 returns c =
@@ -77,7 +77,7 @@ returns c =
     let e : c .before .events .result ≡ events b = c .before .events .ensures in
     c .leads-on .ensures
     ∙ ap (λ (k : ℕ). allBelow k (leadsOn (l .least) 0)) e
-    ∙ columns-done b (rw all at (l .inv .1)) (s .pre .0 .eventsMost)
+    ∙ columns-done b (rw all at (l .inv .1)) (s .pre .0 .header .eventsMost)
 
 pub columns-lead-on-spec : {M : Type 1} → statement M
 columns-lead-on-spec =

@@ -2,7 +2,7 @@
 use Rattle.definitions.specs.Refusal.{situations}
 use Rattle.build.proofs.Building.{width-low, valuations-low, images-fit, book-fits, header-read, explored-over, explored-count, explored-rows, explored-table, situations-are, situations-table, refused-by-11, refused-by-none, build-refused, build-given}
 use Rattle.build.proofs.Policies.{ImagesOf}
-use Rattle.tables.specs.Rows.{rowsIn}
+use Rattle.definitions.specs.Rows.{rowsIn}
 use Rattle.explore.specs.Reaches.{Reaches}
 use Rattle.explore.specs.Images.{imagesMachine}
 use Rattle.definitions.specs.Valuation.{valuations}

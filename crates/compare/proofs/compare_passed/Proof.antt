@@ -35,7 +35,7 @@ module _ (c : tie.After-states2) where
 
   few-numbers : numbers ≤ 256
   few-numbers =
-      omega (arith, c .before .states .ensures, c .states2 .ensures, books start .first .layout .statesMost, books start .second .layout .statesMost)
+      omega (arith, c .before .states .ensures, c .states2 .ensures, books start .first .layout .header .statesMost, books start .second .layout .header .statesMost)
 
   -- the first of as many labels
   labels-long : (k : ℕ) → numbers ≤ k → length {A = ℕ} (take numbers (replicate k 0)) ≡ numbers

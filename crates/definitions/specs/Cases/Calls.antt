@@ -7,7 +7,8 @@ use Rattle.definitions.specs.Answer.{given}
 use Rattle.definitions.specs.Build.{bookOf, buildAnswer, buildBuffer}
 use Rattle.definitions.specs.Verdict.{verdictAnswer, verdictBuffers}
 use Rattle.definitions.specs.Compare.{sameBytes, compareAnswer, compareBuffer}
-use Rattle.definitions.specs.Opened.{openAnswer, tellAnswer, stepState, walkState, walkHistory, none as untold, accept, reject, both}
+use Rattle.definitions.specs.Opened.{openAnswer, tellAnswer, stepState, walkState, walkHistory}
+use Rattle.definitions.specs.Telling.{none as untold, accept, reject, both}
 use Rattle.definitions.specs.Cases.Claim.{Claim, number, says, bytes, builds, finds, compares, tells}
 use Rattle.definitions.specs.Cases.Samples.{policyA, policyB, policyC, policyE, policyG, policyH, bookA, noFindings, lent}
 

@@ -9,7 +9,7 @@ use Rattle.automaton.specs.Below.{sameList}
 use Rattle.automaton.specs.History.{History}
 use Rattle.definitions.specs.Answer.{Answer, refused, given}
 use Rattle.definitions.specs.Verdict.{Found, Findings}
-use Rattle.definitions.specs.Opened.{Telling, none as untold, accept, reject, both}
+use Rattle.definitions.specs.Telling.{Telling, none as untold, accept, reject, both}
 
 pub data Claim : Type 0 where
   number : ℕ → ℕ → Claim

@@ -5,7 +5,7 @@ use lib.ListN.{set, take, replicate}
 use Rattle.definitions.specs.Book.{bookBytes}
 use Rattle.definitions.specs.Refusal.{policyRefusal, bookRefusal}
 use Rattle.definitions.specs.Opened.{stepRefusal, tellRefusal}
-use Rattle.definitions.specs.Shelf.{decimal}
+use Rattle.definitions.specs.Decimal.{decimal}
 use Rattle.definitions.specs.Cases.Claim.{Claim, number, bytes}
 use Rattle.definitions.specs.Cases.Samples.{policy, policyA, bookA, twoFields, twoBounds}
 

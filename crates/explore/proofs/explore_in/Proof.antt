@@ -1,6 +1,6 @@
 -- `explore_in` meets its contract: after s turns the first s situations have been visited.
 use Rattle.explore.proofs.Reaching.{Reaching, reaching-begun, reaches-from, reaching-long, reaching-row, reaching-over, reaching-turn, reaching-done}
-use Rattle.tables.proofs.Searched.{searched-room, searched-state}
+use Rattle.definitions.proofs.SearchArray.{searched-room, searched-state}
 use Rattle.automaton.proofs.Loops.{part-is-drop}
 use Rattle.explore.specs.Reaches.{allReached}
 use Rattle.explore.specs.Images.{imagesMachine}

@@ -3,7 +3,7 @@ use lib.ListN.{length, length-replicate}
 use mathlib.Core.List.{[]}
 use Rattle.number.proofs.Ordering.{Ordering, names-first, ordering-begun, ordering-few, ordering-length, ordering-inside, ordering-low, ordering-turn, ordering-done}
 use Rattle.number.proofs.Numbering.{numbers-none}
-use Rattle.tables.proofs.Searched.{searched-room, searched-state}
+use Rattle.definitions.proofs.SearchArray.{searched-room, searched-state}
 use Rattle.number.specs.Numbers.{numbersBelow}
 use native.Mathlib.Omega.{arith}
 use Prim.Native.Nat.{ℕ, _-_}

@@ -1,6 +1,6 @@
 -- `visit_class` meets its contract: after c turns the codes below c have been tried.
 use Rattle.number.proofs.Classing.{joined-step, class-low, TryingClasses, classes-begun, classes-few, classes-room, classes-length, classes-numbers, classes-turn, classes-done}
-use Rattle.tables.proofs.TableBytes.{state-row, state-entry}
+use Rattle.definitions.proofs.TableBytes.{state-row, state-entry}
 use Rattle.number.specs.Numbers.{joinedIn}
 use Rattle.automaton.proofs.Counting.{length-list-below}
 use Rattle.definitions.specs.Bytes.{byte}

@@ -17,7 +17,7 @@ abbrev μ-loop : tie.MeasureT-loop
 μ-loop first second width n pairs₀ trail₀ label₀ m₀ i₀ pairs trail label m i = n + 1 + states second - i
 
 begin-requires : tie.Need-begin-requires Inv-loop μ-loop
-begin-requires c κs = omega (arith, c .before .before .before .before .before .before .before .pre, room-begun _ _ _ _ _ _ _ (c .before .before .before .before .before .before .before .pre), c .before .before .before .before .before .before .before .pre .books .statesFirst, c .before .before .before .before .before .before .before .pre .books .first .layout .statesMost)
+begin-requires c κs = omega (arith, c .before .before .before .before .before .before .before .pre, room-begun _ _ _ _ _ _ _ (c .before .before .before .before .before .before .before .pre), c .before .before .before .before .before .before .before .pre .books .statesFirst, c .before .before .before .before .before .before .before .pre .books .first .layout .header .statesMost)
 
 loop-holds : tie.Need-loop-holds Inv-loop μ-loop
 loop-holds c = (begun _ _ _ _ _ _ _ (c .before .before .before .before .before .before .before .before .before .before .before .before .pre) _ _ (c .before .before .before .before .begin .ensures .0) (c .before .before .before .before .begin .ensures .1), record { samePairs = refl; sameTrail = refl; sameLabel = refl })

@@ -52,7 +52,7 @@ module _ (c : tie.After-row2) where
   other = c .row2 .ensures ∙ ap (rowFrom (now (start .args .second)) (start .args .width)) (c .before .wide2 .ensures .0)
 
 first-unlike-requires : tie.Need-first-unlike-requires
-first-unlike-requires c κs = (rows-read _ _ _ _ _ _ _ (c .before .before .before .before .before .before .before .before .before .before .pre .0) _ _ (one c) (other c), omega (arith, c .before .before .before .before .before .before .before .before .before .before .pre .0 .books .widthFirst, c .before .before .before .before .before .before .before .before .before .before .pre .0 .books .first .layout .widthMost))
+first-unlike-requires c κs = (rows-read _ _ _ _ _ _ _ (c .before .before .before .before .before .before .before .before .before .before .pre .0) _ _ (one c) (other c), omega (arith, c .before .before .before .before .before .before .before .before .before .before .pre .0 .books .widthFirst, c .before .before .before .before .before .before .before .before .before .before .pre .0 .books .first .layout .header .widthMost))
 
 returns : tie.Need-returns
 returns c = codes-read _ _ _ _ _ _ _ (c .before .before .before .before .before .before .before .before .before .before .before .pre .0) _ _ (one (c .before)) (other (c .before)) _ _ (c .first-unlike .ensures)

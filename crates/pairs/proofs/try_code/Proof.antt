@@ -87,10 +87,10 @@ returns-2 c =
     turned-first _ _ _ _ _ _ _ _ _ _ (pre .0) (pre .1 .0 .0) (pre .1 .0 .1) _ _ (leads-left o) (leads-right o) (parted o) (c .before .if1 .left) (c .if2 .taken)
 
 cast-put : tie.Need-cast-put
-cast-put c = let o = c .before .before .before in omega (arith, x-low o, books o .statesFirst, books o .first .layout .statesMost)
+cast-put c = let o = c .before .before .before in omega (arith, x-low o, books o .statesFirst, books o .first .layout .header .statesMost)
 
 cast-put-2 : tie.Need-cast-put-2
-cast-put-2 c = let o = c .before .before .before in omega (arith, y-low o, books o .second .layout .statesMost)
+cast-put-2 c = let o = c .before .before .before in omega (arith, y-low o, books o .second .layout .header .statesMost)
 
 put-requires : tie.Need-put-requires
 put-requires c κs = let o = c .before .before .before in omega (arith, few-pairs _ _ _ _ _ _ _ _ _ _ (start o .pre .0), start o .pre .0 .ready .roomPairs)
@@ -117,7 +117,7 @@ merge-requires : tie.Need-merge-requires
 merge-requires c κs = let o = c .before .before .before .before .before .before .before .before .before .before .before .before in (start o .pre .0 .labels, (omega (arith, c .before .before .before .before .before .before .before .before .before .before .if2 .left), omega (arith, y-low o, start o .pre .0 .ready)))
 
 add-t18 : tie.Need-add-t18
-add-t18 c = let o = c .before .before .before .before .before .before .before .before .before .before .before .before .before .before .before in omega (arith, few-pairs _ _ _ _ _ _ _ _ _ _ (start o .pre .0), books o .statesFirst, books o .first .layout .statesMost, books o .second .layout .statesMost)
+add-t18 c = let o = c .before .before .before .before .before .before .before .before .before .before .before .before .before .before .before in omega (arith, few-pairs _ _ _ _ _ _ _ _ _ _ (start o .pre .0), books o .statesFirst, books o .first .layout .header .statesMost, books o .second .layout .header .statesMost)
 
 same-length : tie.Need-same-length
 same-length c = search needs

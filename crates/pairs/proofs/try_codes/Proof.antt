@@ -84,7 +84,10 @@ within-again : (c : tie.After-known-told2 Inv-loop μ-loop) → c .before .befor
 within-again c = let o = c .before .before .before .before .before .before .before .before .before .before .before .before .before .before in omega (arith, o .next-code .ensures .most, c .before .before .before .before .before .before .before .before .before .before .before .before .before .if1 .left)
 
 add-c : tie.Need-add-c Inv-loop μ-loop
-add-c c = omega (arith, within-again c)
+add-c c =
+    let o = c .before .before .before .before .before .before .before .before .before .before .before .before .before .before in
+    let books = start o .pre .0 .ready .books in
+    omega (arith, within-again c, books .widthFirst, books .first .layout .header .widthMost)
 
 loop-less : tie.Need-loop-less Inv-loop μ-loop
 loop-less c = omega (arith, within-again c, c .before .before .before .before .before .before .before .before .before .before .before .before .before .before .next-code .ensures .least)

@@ -4,7 +4,7 @@ use lib.Seq.{take-suc-set}
 use lib.ListN.{length, take, set, length-set}
 use Rattle.refine.proofs.Settling.{one-class-length, one-class-at}
 use Rattle.refine.specs.Rounds.{oneClass}
-use Rattle.tables.proofs.Buffers.{fill-turn, fill-done}
+use Rattle.definitions.proofs.RowsWritten.{fill-turn, fill-done}
 use native.Mathlib.Omega.{arith}
 use mathlib.Core.Path.{_≡_, refl, sym, ap, _∙_}
 use borrow.Author.Needs.{needs}

@@ -1,5 +1,5 @@
 -- `is_first_alike` meets its contract: the two rows lie within the table.
-use Rattle.tables.proofs.TableBytes.{state-row, state-entries}
+use Rattle.definitions.proofs.TableBytes.{state-row, state-entries}
 use Rattle.automaton.proofs.Loops.{part-is-drop}
 use lib.ListN.{length, length-drop}
 use borrow.Author.Tests.{eq-eqb, ne-eqb}

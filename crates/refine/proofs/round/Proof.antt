@@ -6,7 +6,7 @@ use lib.ListN.{length, take, length-set}
 use Rattle.automaton.specs.Below.{foldBelow}
 use Rattle.automaton.proofs.Loops.{fold-more}
 use Rattle.definitions.specs.Situation.{emptySet}
-use Rattle.tables.proofs.Buffers.{fill-turn, fill-done}
+use Rattle.definitions.proofs.RowsWritten.{fill-turn, fill-done}
 use Rattle.refine.specs.Rounds.{nextRound}
 use Rattle.refine.specs.Words.{withMoved}
 use Rattle.refine.proofs.Rounds.{first-unmoved, next-length, class-low}

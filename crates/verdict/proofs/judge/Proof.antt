@@ -2,7 +2,8 @@
 use Prim.Native.Nat.{_≤_}
 use native.Mathlib.Omega.{arith}
 use denote.Ref.{now}
-use Rattle.definitions.proofs.Accepted.{BookPassed, book-passed}
+use Rattle.definitions.specs.Checked.{BookPassed}
+use Rattle.definitions.proofs.Accepted.{book-passed}
 use Rattle.search.proofs.Reading.{holds-few, holds-inside}
 use Rattle.verdict.specs.Requests.{StatesIn}
 use Rattle.verdict.proofs.Judging.{Passing, passing, answer-are, buffers-are}
@@ -26,13 +27,13 @@ module _ (c : tie.After-explore) where
   few =
       let s = start c in
       let p = pass s in
-      omega (arith, p .layout .statesMost, holds-few (now (s .args .book)) p (c .before .before .before .width .result) (omega (arith, c .before .before .before .width .ensures)) 1 (omega arith) (p .layout .statesSome) _ _ _ (c .explore .ensures))
+      omega (arith, p .layout .header .statesMost, holds-few (now (s .args .book)) p (c .before .before .before .width .result) (omega (arith, c .before .before .before .width .ensures)) 1 (omega arith) (p .layout .header .statesSome) _ _ _ (c .explore .ensures))
 
   inside : StatesIn (now (start c .args .book)) (c .explore .result) (c .explore .last .1 .1 .1 .1 .0)
   inside =
       let s = start c in
       let p = pass s in
-      holds-inside (now (s .args .book)) p (c .before .before .before .width .result) (omega (arith, c .before .before .before .width .ensures)) 1 (omega arith) (p .layout .statesSome) _ _ _ (c .explore .ensures)
+      holds-inside (now (s .args .book)) p (c .before .before .before .width .result) (omega (arith, c .before .before .before .width .ensures)) 1 (omega arith) (p .layout .header .statesSome) _ _ _ (c .explore .ensures)
 
 width-requires : tie.Need-width-requires
 width-requires c κs = pass (c .before .before .before .before) .layout
@@ -46,7 +47,7 @@ slice-aggregate-explore-2 c = search needs
 explore-requires : tie.Need-explore-requires
 explore-requires c κs =
     let p = pass (c .before .before .before .before .before .before .before) in
-    ((p, c .before .before .width .ensures, omega arith), ((omega arith, p .layout .statesSome), (search needs, search needs)))
+    ((p, c .before .before .width .ensures, omega arith), ((omega arith, p .layout .header .statesSome), (search needs, search needs)))
 
 slice-aggregate-find : tie.Need-slice-aggregate-find
 slice-aggregate-find c = search needs

@@ -2,7 +2,7 @@
 use Rattle.definitions.specs.Bytes.{byte}
 use Rattle.write.proofs.Writing.{looked-length, row-turn}
 use Rattle.definitions.proofs.Written.{length-written}
-use Rattle.tables.specs.Rows.{lookedUp}
+use Rattle.definitions.specs.Rows.{lookedUp}
 use Rattle.definitions.specs.Answer.{written}
 use lib.ListN.{length}
 use native.Mathlib.Omega.{arith}

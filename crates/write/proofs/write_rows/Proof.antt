@@ -1,10 +1,10 @@
 -- `write_rows` meets its contract: the rows passed so far stand after the header.
 use Rattle.write.proofs.Writing.{numbered-count, numbered-part, numbered-wide, order-row}
-use Rattle.tables.proofs.TableBytes.{state-entries}
+use Rattle.definitions.proofs.TableBytes.{state-entries}
 use Rattle.automaton.proofs.Loops.{row-within, part-is-drop}
-use Rattle.tables.proofs.Buffers.{laid-none, laid-length, laid-turn}
+use Rattle.definitions.proofs.RowsWritten.{laid-none, laid-length, laid-turn}
 use Rattle.write.specs.Rows.{numberedRows}
-use Rattle.tables.specs.Rows.{laid}
+use Rattle.definitions.specs.Rows.{laid}
 use lib.Seq.{take-all}
 use lib.ListN.{length, take, drop, length-drop}
 use mathlib.Core.List.{List}

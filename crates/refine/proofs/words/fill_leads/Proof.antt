@@ -6,8 +6,8 @@ use lib.ListN.{length, take, length-set}
 use lib.Seq.{getD-drop}
 use Rattle.automaton.proofs.Counting.{length-list-below, getD-list-below}
 use Rattle.automaton.proofs.Loops.{part-is-drop, row-within}
-use Rattle.tables.proofs.Buffers.{fill-turn, fill-done}
-use Rattle.tables.proofs.TableBytes.{row-fits}
+use Rattle.definitions.proofs.RowsWritten.{fill-turn, fill-done}
+use Rattle.definitions.proofs.TableBytes.{row-fits}
 use Rattle.refine.specs.Words.{rowWord, rowWords}
 use borrow.Author.Needs.{needs}
 use Rattle.refine.proofs.words.fill_leads.Statement.{statement}

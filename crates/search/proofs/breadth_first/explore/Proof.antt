@@ -33,7 +33,7 @@ module _ (c : tie.Start Inv-loop μ-loop) where
   few : length (statesFrom b (c .args .codes) (c .args .start)) ≤ 127
   few =
       let p = c .pre .0 .0 in
-      omega (arith, states-few b p (c .args .codes) (omega (arith, c .pre .0)) (c .args .start) (c .pre .1 .0 .0) (c .pre .1 .0 .1), p .layout .statesMost)
+      omega (arith, states-few b p (c .args .codes) (omega (arith, c .pre .0)) (c .args .start) (c .pre .1 .0 .0) (c .pre .1 .0 .1), p .layout .header .statesMost)
 
   -- a visit does not depend on the start
   same : (order trail : List ℕ) (n i : ℕ)
@@ -59,7 +59,7 @@ loop-holds : tie.Need-loop-holds Inv-loop μ-loop
 loop-holds c =
     let s = c .before .before .before in (
       turning-begun (codesFrom (now (s .args .book)) (s .args .codes) (s .args .start)) (now (s .args .order)) (now (s .args .trail))
-          (s .pre .1 .1 .0) (s .pre .1 .1 .1) (s .pre .1 .0 .0) (omega (arith, s .pre .1 .0, s .pre .0 .0 .layout .statesMost)) 127 _
+          (s .pre .1 .1 .0) (s .pre .1 .1 .1) (s .pre .1 .0 .0) (omega (arith, s .pre .1 .0, s .pre .0 .0 .layout .header .statesMost)) 127 _
           (all (now (s .args .book)) (s .args .codes) (s .args .start)),
       refl,
       refl,

@@ -52,7 +52,7 @@ module _ (c : tie.After-entry Inv-loop μ-loop) where
   low : c .entry .result < 128
   low =
       let p = start .pre .0 .0 in
-      omega (arith, is-entry, p .entryMost state (c .before .before .before .before .before .loop .c) (start .pre .1 .1 .0 .0) (start .pre .1 .1 .0 .1) (omega (arith, start .pre .0, c .before .before .before .before .loop-test .taken)), p .layout .statesMost)
+      omega (arith, is-entry, p .entryMost state (c .before .before .before .before .before .loop .c) (start .pre .1 .1 .0 .0) (start .pre .1 .1 .0 .1) (omega (arith, start .pre .0, c .before .before .before .before .loop-test .taken)), p .layout .header .statesMost)
 
 slice-read-wide : tie.Need-slice-read-wide Inv-loop μ-loop
 slice-read-wide c =

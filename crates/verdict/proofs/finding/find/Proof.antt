@@ -6,7 +6,7 @@ use Rattle.verdict.proofs.finding.find.Statement.{statement}
 use Rattle.verdict.proofs.finding.find.Tie as tie
 
 requests-requires : tie.Need-requests-requires
-requests-requires c κs = let laid = c .before .before .before .before .pre .0 .0 .layout in (omega (arith, laid .exact), laid .fieldsMost)
+requests-requires c κs = let laid = c .before .before .before .before .pre .0 .0 .layout in (omega (arith, laid .exact), laid .header .fieldsMost)
 
 first-with-requires : tie.Need-first-with-requires
 first-with-requires c κs =

@@ -2,7 +2,8 @@
 use Prim.Native.Nat.{_≤_}
 use native.Mathlib.Omega.{arith}
 use denote.Ref.{now}
-use Rattle.definitions.proofs.Accepted.{BookPassed, book-passed}
+use Rattle.definitions.specs.Checked.{BookPassed}
+use Rattle.definitions.proofs.Accepted.{book-passed}
 use Rattle.search.proofs.Reading.{holds-few}
 use Rattle.verdict.proofs.Blocking.{tells-none, tells-blocked}
 use borrow.Author.Needs.{needs}
@@ -18,8 +19,8 @@ few c =
     let p = pass c in
     omega (
       arith,
-      p .layout .statesMost,
-      holds-few (now (c .args .book)) p (c .args .width) (omega (arith, c .pre .0 .1)) 1 (omega arith) (p .layout .statesSome)
+      p .layout .header .statesMost,
+      holds-few (now (c .args .book)) p (c .args .width) (omega (arith, c .pre .0 .1)) 1 (omega arith) (p .layout .header .statesSome)
           (c .args .n) (now (c .args .order)) (now (c .args .trail)) (c .pre .0 .2),
     )
 

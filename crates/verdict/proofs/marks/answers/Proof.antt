@@ -1,6 +1,6 @@
 -- `answers` meets its contract.
 use mathlib.Core.Path.{refl, sym, ap}
-use Rattle.automaton.proofs.Counting.{one}
+use Rattle.automaton.specs.Below.{one}
 use Rattle.verdict.specs.declared.requests.Sought.the-variants.{Answer}
 use Rattle.verdict.proofs.Seeking.{some-sought, none-sought}
 use borrow.Author.Needs.{needs}

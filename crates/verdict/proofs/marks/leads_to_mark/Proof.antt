@@ -39,7 +39,7 @@ shared-slice-read-if1 c =
       arith,
       c .before .entry .ensures,
       s .pre .0 .2,
-      p .layout .statesMost,
+      p .layout .header .statesMost,
       p .entryMost (s .args .state) (c .before .before .before .loop .c) (s .pre .1 .0) (s .pre .1 .1) (omega (arith, c .before .before .before .before .events .ensures, c .before .before .loop-test .taken)),
     )
 

@@ -15,7 +15,7 @@ abbrev μ-loop : tie.MeasureT-loop
 μ-loop book width marks₀ q n s₀ marks s = n + 1 - s
 
 requests-requires : tie.Need-requests-requires Inv-loop μ-loop
-requests-requires c κs = let laid = c .before .before .pre .0 .layout in (omega (arith, laid .exact), laid .fieldsMost)
+requests-requires c κs = let laid = c .before .before .pre .0 .layout in (omega (arith, laid .exact), laid .header .fieldsMost)
 
 states-requires : tie.Need-states-requires Inv-loop μ-loop
 states-requires c κs = omega (arith, c .before .before .before .pre .0 .layout .exact)
@@ -29,17 +29,17 @@ answers-requires c κs =
     ((s .pre .0, s .pre .1, c .before .before .before .requests .ensures), (c .before .loop .inv .0 .some, omega (arith, c .loop-test .taken, c .before .before .states .ensures)))
 
 slice-write-marks : tie.Need-slice-write-marks Inv-loop μ-loop
-slice-write-marks c = omega (arith, c .before .loop-test .taken, c .before .before .before .states .ensures, c .before .before .before .before .before .before .before .pre .0 .layout .statesMost, c .before .before .loop .inv .0 .room)
+slice-write-marks c = omega (arith, c .before .loop-test .taken, c .before .before .before .states .ensures, c .before .before .before .before .before .before .before .pre .0 .layout .header .statesMost, c .before .before .loop .inv .0 .room)
 
 add-s : tie.Need-add-s Inv-loop μ-loop
-add-s c = omega (arith, c .before .loop-test .taken, c .before .before .before .states .ensures, c .before .before .before .before .before .before .before .pre .0 .layout .statesMost)
+add-s c = omega (arith, c .before .loop-test .taken, c .before .before .before .states .ensures, c .before .before .before .before .before .before .before .pre .0 .layout .header .statesMost)
 
 loop-less : tie.Need-loop-less Inv-loop μ-loop
 loop-less c = search needs
 
 loop-again : tie.Need-loop-again Inv-loop μ-loop
 loop-again c =
-    (begun-more _ _ _ (c .before .before .loop .inv .0) (omega (arith, c .before .loop-test .taken, c .before .before .before .states .ensures, c .before .before .before .before .before .before .before .pre .0 .layout .statesMost)) _ (c .answers .ensures), search needs)
+    (begun-more _ _ _ (c .before .before .loop .inv .0) (omega (arith, c .before .loop-test .taken, c .before .before .before .states .ensures, c .before .before .before .before .before .before .before .pre .0 .layout .header .statesMost)) _ (c .answers .ensures), search needs)
 
 same-length : tie.Need-same-length Inv-loop μ-loop
 same-length c = search needs

@@ -37,7 +37,7 @@ add-gained : tie.Need-add-gained Inv-loop μ-loop
 add-gained c = let few = spreading-few _ (c .before .before .before .before .before .before .before .before .before .pre .0) _ _ _ _ (turned c) in omega (arith, few)
 
 add-s : tie.Need-add-s Inv-loop μ-loop
-add-s c = omega (arith, c .before .before .before .before .loop-test .taken, c .before .before .before .before .before .before .states .ensures, c .before .before .before .before .before .before .before .before .before .pre .0 .layout .statesMost)
+add-s c = omega (arith, c .before .before .before .before .loop-test .taken, c .before .before .before .before .before .before .states .ensures, c .before .before .before .before .before .before .before .before .before .pre .0 .layout .header .statesMost)
 
 loop-less : tie.Need-loop-less Inv-loop μ-loop
 loop-less c = search needs

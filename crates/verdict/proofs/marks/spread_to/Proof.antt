@@ -11,7 +11,7 @@ use Rattle.verdict.proofs.marks.spread_to.Statement.{statement}
 use Rattle.verdict.proofs.marks.spread_to.Tie as tie
 
 slice-read-if1 : tie.Need-slice-read-if1
-slice-read-if1 c = omega (arith, c .before .before .before .pre .0 .2, c .before .before .before .pre .1, c .before .before .before .pre .0 .0 .layout .statesMost)
+slice-read-if1 c = omega (arith, c .before .before .before .pre .0 .2, c .before .before .before .pre .1, c .before .before .before .pre .0 .0 .layout .header .statesMost)
 
 returns : tie.Need-returns
 returns c = let a = c .before .before .before .before .args in gain-marked (a .book .now) (a .marks .now) (a .state) (is-state (byte (a .marks .now) (a .state)) (omega (arith, c .if1 .taken)))
@@ -26,7 +26,7 @@ returns-2 : tie.Need-returns-2
 returns-2 c = let a = c .before .before .before .before .before .before .before .args in gain-none (a .book .now) (a .marks .now) (a .state) (sym (c .before .leads-to-mark .ensures) ∙ not-true _ (c .if2 .taken))
 
 slice-write-marks : tie.Need-slice-write-marks
-slice-write-marks c = omega (arith, c .before .before .before .before .before .before .before .pre .0 .2, c .before .before .before .before .before .before .before .pre .1, c .before .before .before .before .before .before .before .pre .0 .0 .layout .statesMost)
+slice-write-marks c = omega (arith, c .before .before .before .before .before .before .before .pre .0 .2, c .before .before .before .before .before .before .before .pre .1, c .before .before .before .before .before .before .before .pre .0 .0 .layout .header .statesMost)
 
 same-length-2 : tie.Need-same-length-2
 same-length-2 c = search needs

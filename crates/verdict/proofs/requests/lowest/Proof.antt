@@ -31,10 +31,10 @@ loop-holds : tie.Need-loop-holds Inv-loop μ-loop
 loop-holds c = (search needs, λ j l. absurd (omega arith))
 
 mul-code : tie.Need-mul-code Inv-loop μ-loop
-mul-code c = omega (arith, c .loop-test .taken, c .before .before .before .before .pre .0, c .before .before .before .before .pre .0 .0 .layout .requestsMost)
+mul-code c = omega (arith, c .loop-test .taken, c .before .before .before .before .pre .0, c .before .before .before .before .pre .0 .0 .layout .header .requestsMost)
 
 add-code : tie.Need-add-code Inv-loop μ-loop
-add-code c = omega (arith, c .loop-test .taken, c .before .before .before .before .pre .0, c .before .before .before .before .pre .0 .0 .layout .requestsMost, c .before .before .before .before .pre .0 .0 .layout .eventsMost, c .before .before .events .ensures)
+add-code c = omega (arith, c .loop-test .taken, c .before .before .before .before .pre .0, c .before .before .before .before .pre .0 .0 .layout .header .requestsMost, c .before .before .before .before .pre .0 .0 .layout .header .eventsMost, c .before .before .events .ensures)
 
 entry-requires : tie.Need-entry-requires Inv-loop μ-loop
 entry-requires c κs =
@@ -42,7 +42,7 @@ entry-requires c κs =
     (s .pre .0 .0 .layout, ((s .pre .0 .1, omega (arith, c .loop-test .taken, s .pre .0 .1, s .pre .0 .2, c .before .before .events .ensures)), s .pre .1))
 
 add-entry : tie.Need-add-entry Inv-loop μ-loop
-add-entry c = omega (arith, c .before .loop-test .taken, c .before .before .before .before .before .pre .0, c .before .before .before .before .before .pre .0 .0 .layout .requestsMost, c .before .before .before .before .before .pre .0 .0 .layout .eventsMost, c .before .before .before .events .ensures)
+add-entry c = omega (arith, c .before .loop-test .taken, c .before .before .before .before .before .pre .0, c .before .before .before .before .before .pre .0 .0 .layout .header .requestsMost, c .before .before .before .before .before .pre .0 .0 .layout .header .eventsMost, c .before .before .before .events .ensures)
 
 entry-requires-2 : tie.Need-entry-requires-2 Inv-loop μ-loop
 entry-requires-2 c κs =

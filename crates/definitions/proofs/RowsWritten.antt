@@ -10,11 +10,11 @@ use lib.Seq.{take-all, getD-take, take-suc, take-suc-set, length-take-le, take-a
 use borrow.Rule.Slice.PartMut.{putMid}
 use Rattle.automaton.proofs.Counting.{length-list-below, getD-list-below}
 use Rattle.automaton.proofs.WellFormed.{Wide}
 use Rattle.definitions.specs.Answer.{written}
 use Rattle.definitions.specs.Book.{concat}
 use Rattle.definitions.proofs.Written.{take-written, drop-written}
 use Rattle.definitions.proofs.BookBytes.{wide-tail, length-concat}
-use Rattle.tables.specs.Rows.{rowIn, rowsIn, laid}
+use Rattle.definitions.specs.Rows.{rowIn, rowsIn, laid}
 
 -- ---- filled from the front, towards the list `whole`
 module _ (whole : List ℕ) where

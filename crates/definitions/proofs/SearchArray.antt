@@ -9,14 +9,14 @@ use Rattle.automaton.specs.Machine.{Machine, step, isState}
 use Rattle.automaton.specs.Explore.{Reached, numberIn, visit, unreached, startOf, reached}
 use Rattle.automaton.specs.Table.{rowOf}
 use Rattle.automaton.proofs.Exploring.{Front, front-at, front-length, visit-front, stateAt, Sound}
 use Rattle.definitions.specs.Answer.{written}
 use Rattle.definitions.proofs.BookSteps.{state-is}
-use Rattle.tables.specs.States.{states, numberAmong, afterCodes, rowAmong}
-use Rattle.tables.proofs.States.{length-states, state-at, number-states, visit-states}
+use Rattle.automaton.specs.StateList.{stateList, numberAmong, afterCodes, rowAmong}
+use Rattle.automaton.proofs.StateList.{length-states, state-at, number-states, visit-states}
 use Rattle.automaton.proofs.Congruence.{list-below-same}
 use Rattle.automaton.proofs.Turns.{ToCome, to-come-begun, to-come-turn, to-come-front, to-come-done}
-use Rattle.tables.proofs.Searching.{row-stays}
+use Rattle.automaton.proofs.KeptNumbers.{row-stays}
 use Rattle.definitions.proofs.Written.{take-written, length-written, written-take, written-again}
 
 -- s of the states in L, which are all that m reaches, have been visited, and n are found
 pub record Searched (m : Machine) (most : ℕ) (L : List Reached) (found₀ found : List ℕ) (n s : ℕ) : Type 0 where
@@ -27,7 +27,7 @@ pub record Searched (m : Machine) (most : ℕ) (L : List Reached) (found₀ foun
   pub few : n ≤ most
   pub inside : s ≤ n
   pub count : n ≡ length list
-  pub array : found ≡ written (states list) found₀
+  pub array : found ≡ written (stateList list) found₀
 
 pub searched-begun : (m : Machine) (most : ℕ) (L : List Reached) (found : List ℕ) → 1 ≤ most → 0 < length found → take 1 found ≡ m .start ∷ []
     → reached m most ≡ L → Sound m L → Searched m most L found found 1 0
@@ -50,18 +50,18 @@ module _ {m : Machine} {most : ℕ} {L : List Reached} {found₀ found : List �
   searched-all = omega (arith, front-length front, now .count)
 
   pub searched-room : length found ≡ length found₀
-  searched-room = rw (now .array) (length-written (states (now .list)) found₀ (omega (arith, length-states (now .list), now .count, now .room)))
+  searched-room = rw (now .array) (length-written (stateList (now .list)) found₀ (omega (arith, length-states (now .list), now .count, now .room)))
 
-  pub searched-done : n ≤ s → (n ≡ length L) × (found ≡ written (states L) found₀)
+  pub searched-done : n ≤ s → (n ≡ length L) × (found ≡ written (stateList L) found₀)
   searched-done l =
       let whole : now .list ≡ L = to-come-done m most L s (now .list) (omega (arith, now .count)) (now .come) in
-      (now .count ∙ ap length whole, now .array ∙ ap (λ (l : List Reached). written (states l) found₀) whole)
+      (now .count ∙ ap length whole, now .array ∙ ap (λ (l : List Reached). written (stateList l) found₀) whole)
 
   -- the next state is visited
   module _ (b : s < n) where
     at-list : getD found s 0 ≡ stateAt (now .list) s
     at-list =
-        rw (now .array) (List·getD-append (states (now .list)) (drop (length (states (now .list))) found₀) 0 s (omega (arith, length-states (now .list), now .count)))
+        rw (now .array) (List·getD-append (stateList (now .list)) (drop (length (stateList (now .list))) found₀) 0 s (omega (arith, length-states (now .list), now .count)))
         ∙ state-at (now .list) s (omega (arith, now .count))
 
     pub searched-at : getD found s 0 ≡ stateAt L s
@@ -80,10 +80,10 @@ module _ {m : Machine} {most : ℕ} {L : List Reached} {found₀ found : List �
     abbrev next : List ℕ
     next = afterCodes m (getD found s 0) (m .width) (take n found)
 
-    next-is : next ≡ states more
+    next-is : next ≡ stateList more
     next-is =
-        let old : take n found ≡ states (now .list) =
-        rw (now .array) (take-written (states (now .list)) found₀ n (length-states (now .list) ∙ sym (now .count))) in
+        let old : take n found ≡ stateList (now .list) =
+        rw (now .array) (take-written (stateList (now .list)) found₀ n (length-states (now .list) ∙ sym (now .count))) in
         rw (old, at-list) (sym (visit-states m t (m .width) (now .list)))
 
     come-on : ToCome m most L (suc s) more
@@ -102,7 +102,7 @@ module _ {m : Machine} {most : ℕ} {L : List Reached} {found₀ found : List �
     pub searched-row : rowAmong m next (getD found s 0) ≡ rowOf m L (stateAt L s)
     searched-row =
         rw (next-is, at-list)
-        (list-below-same (λ c. numberAmong (states more) (step m (t .state) c)) (λ c. numberIn more (step m (t .state) c)) (m .width)
+        (list-below-same (λ c. numberAmong (stateList more) (step m (t .state) c)) (λ c. numberIn more (step m (t .state) c)) (m .width)
         (λ c l. number-states more (step m (t .state) c))
         ∙ sym (row-stays m t (now .list) L front-on)
         ∙ ap (rowOf m L) (sym at-list ∙ searched-at))
@@ -120,5 +120,5 @@ module _ {m : Machine} {most : ℕ} {L : List Reached} {found₀ found : List �
           inside = omega (arith, grows);
           count = same;
           array = array ∙ rw (next-is, now .array)
-              (written-again (states (now .list)) (states more) found₀ (omega (arith, grows, now .count, length-states more, length-states (now .list))));
+              (written-again (stateList (now .list)) (stateList more) found₀ (omega (arith, grows, now .count, length-states more, length-states (now .list))));
         }

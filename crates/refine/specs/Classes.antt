@@ -3,7 +3,7 @@ use mathlib.Core.List.{List, _∷_}
 use Prim.Native.Nat.{ℕ, _-_}
 use lib.ListN.{length}
 use Rattle.automaton.specs.Join.{classes}
-use Rattle.tables.specs.Rows.{rowsIn}
+use Rattle.definitions.specs.Rows.{rowsIn}
 
 -- the rows of a table whose classes the array holds
 abbrev pub rowsWith : List ℕ → ℕ → List ℕ → List (List ℕ)

@@ -7,23 +7,23 @@ use native.Mathlib.Omega.{arith}
 use lib.Dec.{eqb}
 use lib.ListN.{length, getD, length-append, length-map}
 use borrow.Author.Tests.{eq-eqb}
 use Rattle.automaton.specs.Below.{oneOn, placeOf}
 use Rattle.automaton.specs.History.{History}
 use Rattle.automaton.specs.Machine.{Machine, step, isState}
 use Rattle.automaton.specs.Explore.{Reached, isAt, numberIn, add, visit, unreached}
 use Rattle.automaton.proofs.Counting.{place-hit, place-end}
 use Rattle.automaton.proofs.WellFormed.{getD-map-within}
 use Rattle.automaton.proofs.Exploring.{stateAt, front-length}
 use Rattle.automaton.proofs.Turns.{visit-grows}
-use Rattle.tables.specs.States.{stateOf, states, bare, numberAmong, addState, afterCodes}
+use Rattle.automaton.specs.StateList.{stateOf, stateList, bare, numberAmong, addState, afterCodes}
 
-pub states-bare : (l : List ℕ) → states (map bare l) ≡ l
+pub states-bare : (l : List ℕ) → stateList (map bare l) ≡ l
 states-bare l = map-map stateOf bare l ∙ map-id l
 
-pub length-states : (found : List Reached) → length (states found) ≡ length found
+pub length-states : (found : List Reached) → length (stateList found) ≡ length found
 length-states found = length-map found stateOf
 
-pub state-at : (found : List Reached) (k : ℕ) → k < length found → getD (states found) k 0 ≡ stateAt found k
+pub state-at : (found : List Reached) (k : ℕ) → k < length found → getD (stateList found) k 0 ≡ stateAt found k
 state-at found k l = getD-map-within stateOf found k unreached 0 l
 
 place-map : {A B : Type 0} (f : B → Bool) (g : A → B) (xs : List A) → placeOf f (map g xs) ≡ placeOf (λ x. f (g x)) xs
@@ -35,9 +35,9 @@ pub number-place : (l : List ℕ) (s : ℕ) → isState s ≡ true → numberAmo
 number-place l zero p = absurd (false≢true p)
 number-place l (suc s) p = place-map (isAt (suc s)) bare l
 
-pub number-states : (found : List Reached) (s : ℕ) → numberAmong (states found) s ≡ numberIn found s
+pub number-states : (found : List Reached) (s : ℕ) → numberAmong (stateList found) s ≡ numberIn found s
 number-states found zero = refl
-number-states found (suc s) = number-place (states found) (suc s) refl ∙ place-map (eqb (suc s)) stateOf found
+number-states found (suc s) = number-place (stateList found) (suc s) refl ∙ place-map (eqb (suc s)) stateOf found
 
 pub number-none : (s : ℕ) → numberAmong [] s ≡ 0
 number-none zero = refl
@@ -89,25 +89,25 @@ module _ (l : List ℕ) where
   added-few s = added-cases (λ more. length more ≤ suc (length l)) s (λ e. omega arith) (λ k e. omega arith) (λ p e. rw length-append (omega arith))
 
 -- ---- the histories do not matter
-add-states : (found : List Reached) (s : ℕ) (h : History) → states (add found s h) ≡ addState (states found) s
-add-states found zero h = sym (added-none (states found))
+add-states : (found : List Reached) (s : ℕ) (h : History) → stateList (add found s h) ≡ addState (stateList found) s
+add-states found zero h = sym (added-none (stateList found))
 add-states found (suc s) h = go (numberIn found (suc s)) refl
   where
     go : (n : ℕ) → numberIn found (suc s) ≡ n
-        → states (cond (isState n) found (found ++ (record { state = suc s; history = h } ∷ []))) ≡ addState (states found) (suc s)
-    go zero e = map-append stateOf found (record { state = suc s; history = h } ∷ []) ∙ sym (added-new (states found) (suc s) refl (number-states found (suc s) ∙ e))
-    go (suc k) e = sym (added-known (states found) (suc s) (ap isState (number-states found (suc s) ∙ e)))
+        → stateList (cond (isState n) found (found ++ (record { state = suc s; history = h } ∷ []))) ≡ addState (stateList found) (suc s)
+    go zero e = map-append stateOf found (record { state = suc s; history = h } ∷ []) ∙ sym (added-new (stateList found) (suc s) refl (number-states found (suc s) ∙ e))
+    go (suc k) e = sym (added-known (stateList found) (suc s) (ap isState (number-states found (suc s) ∙ e)))
 
 module _ (m : Machine) where
   pub after-more : (s c : ℕ) (l : List ℕ) → afterCodes m s (suc c) l ≡ addState (afterCodes m s c l) (step m s c)
   after-more s c l = add-states (visit m (bare s) c (map bare l)) (step m s c) ([] ++ (c ∷ []))
 
-  pub visit-states : (t : Reached) (k : ℕ) (found : List Reached) → states (visit m t k found) ≡ afterCodes m (t .state) k (states found)
-  visit-states t zero found = sym (states-bare (states found))
+  pub visit-states : (t : Reached) (k : ℕ) (found : List Reached) → stateList (visit m t k found) ≡ afterCodes m (t .state) k (stateList found)
+  visit-states t zero found = sym (states-bare (stateList found))
   visit-states t (suc c) found =
       add-states (visit m t c found) (step m (t .state) c) (t .history ++ (c ∷ []))
       ∙ ap (λ (l : List ℕ). addState l (step m (t .state) c)) (visit-states t c found)
-      ∙ sym (after-more (t .state) c (states found))
+      ∙ sym (after-more (t .state) c (stateList found))
 
   pub after-grows : (s : ℕ) (l : List ℕ) (c k : ℕ) → c ≤ k → length (afterCodes m s c l) ≤ length (afterCodes m s k l)
   after-grows s l c k b =

@@ -10,8 +10,8 @@ use Rattle.automaton.specs.Table.{entryIn}
 use Rattle.automaton.specs.Join.{classOf}
 use Rattle.automaton.proofs.Counting.{length-list-below, getD-list-below}
 use Rattle.automaton.proofs.WellFormed.{IsTable}
 use Rattle.definitions.specs.Bytes.{byte}
-use Rattle.tables.specs.Rows.{rowIn, rowsIn, TableIn, EntriesBelow}
+use Rattle.definitions.specs.Rows.{rowIn, rowsIn, TableIn, EntriesBelow}
 use Rattle.automaton.proofs.Loops.{row-within}
 
 -- the classes in an array, with that of "not possible" first

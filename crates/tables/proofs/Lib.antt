@@ -1,5 +1,0 @@
-pub mod States
-pub mod Searching
-pub mod Buffers
-pub mod Searched
-pub mod TableBytes

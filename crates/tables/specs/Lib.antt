@@ -1,3 +1,0 @@
-pub mod States
-pub mod Rows
-pub mod Classes
