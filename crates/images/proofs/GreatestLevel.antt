@@ -35,14 +35,14 @@ module _ (n : ℕ) (fitting : ℕ → Bool) (level : ℕ → ℕ) where
   pub by-level : (k : ℕ) → k < n → (fitting k && not (anyBelow n (above k))) ≡ (fitting k && eqb (level k) top)
   by-level k l = go (fitting k) refl
     where
-      outdone : fitting k ≡ true → (b : Bool) → anyBelow n (above k) ≡ b → not b ≡ eqb (level k) top
-      outdone q true e =
+      outranked : fitting k ≡ true → (b : Bool) → anyBelow n (above k) ≡ b → not b ≡ eqb (level k) top
+      outranked q true e =
           let w = any-below-at (above k) n e in
           let h = and-true (ltb (level k) (level (w .0))) (fitting (w .0)) (w .2) in
           let less = ltb-true (level k) (level (w .0)) (h .0) in
           let reach = reaches (w .0) (w .1) (h .1) in
           sym (ne-eqb (level k) top (λ z. omega arith))
-      outdone q false e =
+      outranked q false e =
           let reach = reaches k l q in
           let least : top ≤ level k = greatest-below-least seen n (level k) (λ i m. not-above k i (none i m)) in
           sym (eq-eqb (level k) top (omega arith))
@@ -56,4 +56,4 @@ module _ (n : ℕ) (fitting : ℕ → Bool) (level : ℕ → ℕ) where
 
       go : (a : Bool) → fitting k ≡ a → (a && not (anyBelow n (above k))) ≡ (a && eqb (level k) top)
       go false q = refl
-      go true q = outdone q (anyBelow n (above k)) refl
+      go true q = outranked q (anyBelow n (above k)) refl

@@ -1,7 +1,7 @@
--- `rules::matching::mask_lets` meets its contract.
+-- `rules::matching::mask_admits` meets its contract.
 use borrow.Author.Needs.{needs}
-use Rattle.rules.proofs.matching.mask_lets.Statement.{statement}
-use Rattle.rules.proofs.matching.mask_lets.Tie as tie
+use Rattle.rules.proofs.matching.mask_admits.Statement.{statement}
+use Rattle.rules.proofs.matching.mask_admits.Tie as tie
 
 mask-requires : tie.Need-mask-requires
 mask-requires c κs = search needs
@@ -18,5 +18,5 @@ shr-result c = search needs
 returns : tie.Need-returns
 returns c = rw (c .before .mask .ensures .0)
 
-pub mask-lets-spec : {M : Type 1} → statement M
-mask-lets-spec = tie.close (tie.spec mask-requires mul-result shared-slice-read-result shr-result returns)
+pub mask-admits-spec : {M : Type 1} → statement M
+mask-admits-spec = tie.close (tie.spec mask-requires mul-result shared-slice-read-result shr-result returns)

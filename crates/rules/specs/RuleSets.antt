@@ -15,21 +15,22 @@ withPassing f k set = cond (f k) (insert k set) set
 abbrev pub passing : ℕ → (ℕ → Bool) → ℕ
 passing n f = foldBelow n emptySet (withPassing f)
 
--- ---- the masks of rule q let the values x of the fields through. At the values of request r this is letsThrough
-abbrev pub maskLetsBy : List ℕ → (ℕ → ℕ) → ℕ → Bool
-maskLetsBy q x f = bit (mask q f) (x f)
+-- ---- the masks of rule q admit the values x of the fields. At the values of request r this is letsThrough
+abbrev pub maskAdmits : List ℕ → (ℕ → ℕ) → ℕ → Bool
+maskAdmits q x f = bit (mask q f) (x f)
 
-abbrev pub letsBy : List ℕ → List ℕ → (ℕ → ℕ) → Bool
-letsBy p q x = allBelow (fields p) (maskLetsBy q x)
+abbrev pub admits : List ℕ → List ℕ → (ℕ → ℕ) → Bool
+admits p q x = allBelow (fields p) (maskAdmits q x)
 
-abbrev pub ruleLets : List ℕ → (ℕ → ℕ) → ℕ → Bool
-ruleLets p x k = letsBy p (rule p k) x
+abbrev pub ruleAdmits : List ℕ → (ℕ → ℕ) → ℕ → Bool
+ruleAdmits p x k = admits p (rule p k) x
 
-abbrev pub letting : List ℕ → (ℕ → ℕ) → ℕ
-letting p x = passing (rules p) (ruleLets p x)
+abbrev pub admitting : List ℕ → (ℕ → ℕ) → ℕ
+admitting p x = passing (rules p) (ruleAdmits p x)
 
-abbrev pub lettingRequest : List ℕ → ℕ → ℕ
-lettingRequest p r = letting p (value p r)
+-- the rules that match request r: their masks admit its values
+abbrev pub matching : List ℕ → ℕ → ℕ
+matching p r = admitting p (value p r)
 
 -- ---- the tests of rule q are true of the values x of the variables. At the values of valuation v this is enabled
 

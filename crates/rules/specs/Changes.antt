@@ -1,4 +1,4 @@
--- Where changes lead from a valuation, by a table of the values of its variables.
+-- Where changes lead from a valuation, by an array of the values of its variables.
 use mathlib.Core.List.{List}
 use Prim.Native.Nat.{ℕ, _+_, _*_, _<_, _≤_}
 use lib.ListN.{length, getD}
@@ -7,17 +7,17 @@ use Rattle.definitions.specs.Bytes.{byte}
 use Rattle.definitions.specs.Policy.{variables}
 use Rattle.definitions.specs.Valuation.{bound, worth, changed}
 
--- ---- changes that stand in a part of the file, each `step` bytes after the one before it
-abbrev pub spread : List ℕ → ℕ → ℕ → ℕ → ℕ
-spread part first step j = byte part (first + step * j)
+-- ---- changes in a part of the file, each `step` bytes after the one before it
+abbrev pub changeAt : List ℕ → ℕ → ℕ → ℕ → ℕ
+changeAt part first step j = byte part (first + step * j)
 
 -- n of them lie in the part
-abbrev pub Spread : List ℕ → ℕ → ℕ → ℕ → Type 0
-Spread part first step n = (j : ℕ) → j < n → first + step * j < length part
+abbrev pub ChangesIn : List ℕ → ℕ → ℕ → ℕ → Type 0
+ChangesIn part first step n = (j : ℕ) → j < n → first + step * j < length part
 
 -- ---- where changes lead from the values x of the variables. At the values of valuation v this is carriedOut
 
--- a table of values of the variables
+-- an array of values of the variables
 pub record Valued (p values : List ℕ) : Type 0 where
   pub room : variables p ≤ length values
   pub most : (j : ℕ) → j < variables p → getD values j 0 ≤ bound p j
