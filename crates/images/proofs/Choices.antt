@@ -4,7 +4,7 @@ use mathlib.Core.Path.{_≡_, refl, sym, ap, _∙_}
 use mathlib.Core.Bool.{Bool, cond, true, false, _&&_}
 use mathlib.Core.List.{List}
 use mathlib.Core.Logic.{_⊎_, inl, inr}
-use Prim.Native.Nat.{ℕ, zero, suc, _+_, _*_, _/_, _^_, _<_, _≤_, max}
+use Prim.Native.Nat.{ℕ, zero, suc, _+_, _-_, _*_, _/_, _%_, _^_, _<_, _≤_, max}
 use native.Mathlib.Nat.{max-eq-left, max-eq-right, max-zero}
 use native.Mathlib.Decide.{decLe}
 use native.Mathlib.Numerals.{add-one}
@@ -19,7 +19,6 @@ use Rattle.automaton.proofs.Order.{tri}
 use Rattle.automaton.proofs.Filling.{Filled, filled-turn}
 use Rattle.definitions.specs.Bytes.{bit}
 use Rattle.definitions.specs.Situation.{emptySet, insert}
-use Rattle.definitions.specs.Codes.{requestOf, decisionOf}
 use Rattle.images.specs.Choice.{levelAt, decisionAt, withDecided, withTarget, withMost, levelIn, greatest, withChosen, chosenBy, leading, Listed, Chosen, chosenFor}
 use Rattle.images.specs.declared.deciding.Choice.{Choice}
 use Rattle.rules.proofs.RuleSets.{bit-and, none-from, Member}
@@ -144,7 +143,7 @@ decided-turn sets enabled ranks targets r choice before after room chosen done =
     let second : (2 * r + 1 - 0) / 2 ≡ r = omega arith in
     let accepts : 1 - (2 * r - 0) % 2 ≡ 1 = omega arith in
     let rejects : 1 - (2 * r + 1 - 0) % 2 ≡ 0 = omega arith in
-    let one = filled-turn done (omega arith) (rw (first, accepts) (chosen .1)) in
-    let two = filled-turn one (omega arith) (rw (second, rejects) (chosen .2)) in
+    let one = filled-turn done {x = choice .accepted .set} (omega arith) (rw (first, accepts) (chosen .1)) in
+    let two = filled-turn one {x = choice .rejected .set} (omega arith) (rw (second, rejects) (chosen .2)) in
     let e : 2 * r + 1 + 1 ≡ 2 * (r + 1) = omega arith in
     rw e at two

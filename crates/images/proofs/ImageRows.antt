@@ -126,9 +126,10 @@ pub row-imaged : (p values : List ℕ) (v first : ℕ) (row part : List ℕ) →
 row-imaged p values v first row part valued e room done long decided =
     let done′ : Tabled first (eventFrom p (entryOf values)) row = rw (← e) at done in
     let all = tabled-part first (2 * requests p) (eventFrom p (entryOf values)) (decidedFrom p v) (imageFrom p v) row part long done′ (decided v valued)
-        (λ i l. event-from-same p (entryOf values) (variableIn p v) (valued .entry) i ∙ rw (lt-ltb i (events p) (omega arith)))
-        (λ j l. ap (λ (c : ℕ). imageFrom p v (c + j)) (sym e)) (omega arith) in
-    rw e at all
+    (λ i l. event-from-same p (entryOf values) (variableIn p v) (valued .entry) i ∙ rw (lt-ltb i (events p) (omega arith)))
+    (λ j l. ap (λ (c : ℕ). imageFrom p v (c + j)) (sym e)) (omega arith) in
+    let wide : first + 2 * requests p ≡ width p = rw e in
+    rw wide at all
 
 -- ---- the rows of all valuations
 module _ (p : List ℕ) where

@@ -82,7 +82,13 @@ fn choose(fits: u64, ranks: &[usize], targets: &[usize]) -> Choice
 }
 
 // Entries 2r and 2r + 1 are where request r leads, accepted and rejected.
-pub fn fill_requests(sets: &[u64], enabled: u64, ranks: &[usize], targets: &[usize], row: &mut [u64])
+pub fn fill_requests(
+    sets: &[u64],
+    enabled: u64,
+    ranks: &[usize],
+    targets: &[usize],
+    row: &mut [u64],
+)
     requires { ⌜ Listed enabled (now ranks) (now targets) × (2 * length (now sets) ≤ length (now row)) ⌝ }
     ensures { λ _. ⌜ Tabled (2 * length (now (sets .entry))) (chosenFor (now (sets .entry)) enabled (now (ranks .entry)) (now (targets .entry))) (now (row .exit)) ⌝ }
 {

@@ -13,6 +13,9 @@ use Rattle.automaton.proofs.Counting.{length-list-below, getD-list-below}
 use Rattle.automaton.proofs.Filling.{Filled}
 use Rattle.rules.specs.Arrays.{Tabled}
 
+pub tabled-none : (f : ℕ → ℕ) (l : List ℕ) → Tabled 0 f l
+tabled-none f l = record { room = omega arith; entry = λ i b. absurd (omega arith) }
+
 -- what a loop leaves that has filled n entries
 pub filled-tabled : {f : ℕ → ℕ} {old l : List ℕ} {i : ℕ} (n : ℕ) → Filled f old i l → i ≡ n → Tabled n f l
 filled-tabled {f} {old} {l} {i} n filled e =
@@ -24,6 +27,13 @@ filled-tabled {f} {old} {l} {i} n filled e =
         ap (λ (l : List ℕ). getD l k 0) (filled .is)
         ∙ List·getD-append (listBelow i f) (drop i old) 0 k (rw (length-list-below f i) b)
         ∙ getD-list-below f i k 0 b
+
+-- an array cut down to those entries
+pub tabled-take : (n q : ℕ) (f : ℕ → ℕ) (l : List ℕ) → q ≡ n → Tabled n f l → Tabled n f (take q l)
+tabled-take n q f l e t = record {
+  room = rw (length-take-le q l (omega (arith, t .room))) (omega arith);
+  entry = λ i b. getD-take q l i 0 (omega arith) ∙ t .entry i b;
+}
 
 -- the part of l that begins at a was handed on, and has come back with n entries
 pub tabled-part : (a n : ℕ) (f g h : ℕ → ℕ) (l part : List ℕ) → length part ≡ length (take (length l - a) (drop a l)) → Tabled a f l → Tabled n g part

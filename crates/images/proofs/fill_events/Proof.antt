@@ -1,85 +1,89 @@
+-- `images::fill_events` meets its contract. The loop's invariant: the first e entries are filled.
+use mathlib.Core.Path.{_≡_, ap, _∙_}
+use Prim.Native.Nat.{ℕ, _≤_, _<_, _-_}
+use native.Mathlib.Omega.{arith}
+use lib.ListN.{length}
 use borrow.Author.Needs.{needs}
+use Rattle.automaton.proofs.Filling.{Filled, filled-begun, filled-turn}
+use Rattle.automaton.proofs.Loops.{row-within}
+use Rattle.definitions.specs.Policy.{events}
+use Rattle.definitions.specs.Situation.{emptySet, insert}
+use Rattle.rules.specs.Arrays.{entryOf}
+use Rattle.rules.proofs.Arrays.{filled-tabled}
+use Rattle.images.specs.Images.{eventFrom}
+use Rattle.images.proofs.Targets.{event-changes, event-target}
 use Rattle.images.proofs.fill_events.Statement.{statement}
 use Rattle.images.proofs.fill_events.Tie as tie
-use Rattle.images.proofs.fill_events.Reads as reads
-use Rattle.images.proofs.fill_events.Lts as lts
-use Rattle.policy.proofs.header.events.Reads as events-reads
-use Rattle.policy.proofs.header.variables.Reads as variables-reads
-use Rattle.policy.proofs.part.changes.Reads as changes-reads
-use Rattle.policy.proofs.part.rule_table.Reads as rule-table-reads
-use Rattle.rules.proofs.effects.carried_out.Reads as carried-out-reads
-use Rattle.situation.proofs.Situation.empty.Reads as empty-reads
-use Rattle.situation.proofs.Situation.with.Reads as with-reads
 
 abbrev Inv-loop : tie.InvT-loop
-Inv-loop policy bounds values row₀ changes n step e₀ row e = ?
+Inv-loop policy bounds values row₀ changes n step e₀ row e = (e ≤ n) × Filled (eventFrom policy (entryOf values)) row₀ e row
 
 abbrev μ-loop : tie.MeasureT-loop
-μ-loop policy bounds values row₀ changes n step e₀ row e = ?
+μ-loop policy bounds values row₀ changes n step e₀ row e = n - e
 
--- src/lib.rt:57:41
+room : (c : tie.In-loop Inv-loop μ-loop) → c .before .loop .e < length (c .before .before .before .before .before .before .before .before .before .before .args .row .now)
+room c = omega (arith, c .before .before .before .before .before .before .before .before .before .before .pre .3)
+
 rule-table-requires : tie.Need-rule-table-requires Inv-loop μ-loop
 rule-table-requires c κs = search needs
 
--- src/lib.rt:57:9
 changes-requires : tie.Need-changes-requires Inv-loop μ-loop
 changes-requires c κs = search needs
 
--- src/lib.rt:58:9
 events-requires : tie.Need-events-requires Inv-loop μ-loop
 events-requires c κs = search needs
 
--- src/lib.rt:59:9
 variables-requires : tie.Need-variables-requires Inv-loop μ-loop
 variables-requires c κs = search needs
 
--- src/lib.rt:61:5
 loop-holds : tie.Need-loop-holds Inv-loop μ-loop
-loop-holds c = search needs
+loop-holds c = (search needs, filled-begun _ _)
 
--- src/lib.rt:62:60
 mul-carried-out : tie.Need-mul-carried-out Inv-loop μ-loop
-mul-carried-out c = search needs
+mul-carried-out c = let k = row-within (c .before .loop .e) 8 (c .before .before .variables .result) (omega arith) in omega arith
 
--- src/lib.rt:62:13
 carried-out-requires : tie.Need-carried-out-requires Inv-loop μ-loop
-carried-out-requires c κs = search needs
+carried-out-requires c κs =
+    let start = c .before .before .before .before .before .before .before .before .before .before in
+    let variables = c .before .before .variables in
+    let changes = c .before .before .before .before .changes in
+    (start .pre .0, start .pre .1, start .pre .2, event-changes (start .args .policy .now) _ (variables .result) (c .before .loop .e) (changes .ensures) (variables .ensures .0) (omega arith))
 
--- src/lib.rt:63:23
 empty-requires : tie.Need-empty-requires Inv-loop μ-loop
 empty-requires c κs = search needs
 
--- src/lib.rt:63:13
 with-requires : tie.Need-with-requires Inv-loop μ-loop
 with-requires c κs = search needs
 
--- src/lib.rt:64:9
 mul-row : tie.Need-mul-row Inv-loop μ-loop
 mul-row c = search needs
 
--- src/lib.rt:64:9
 slice-write-row : tie.Need-slice-write-row Inv-loop μ-loop
 slice-write-row c = search needs
 
--- src/lib.rt:65:9
 add-e : tie.Need-add-e Inv-loop μ-loop
 add-e c = search needs
 
--- src/lib.rt:61:5
 loop-less : tie.Need-loop-less Inv-loop μ-loop
 loop-less c = search needs
 
--- src/lib.rt:61:5
 loop-again : tie.Need-loop-again Inv-loop μ-loop
-loop-again c = search needs
+loop-again c =
+    let a = c .before .before .before .before .before .before .before .before .before .before .before .before .before .args in
+    let variables = c .before .before .before .before .before .variables in
+    let changes = c .before .before .before .before .before .before .before .changes in
+    let loop = c .before .before .before .before .loop in
+    let target = c .before .before .carried-out in
+    let e = event-target (a .policy .now) _ (variables .result) (loop .e) (changes .ensures) (variables .ensures .0) (entryOf (a .values .now)) (target .result) (target .ensures .0) in (
+      omega arith,
+      filled-turn (loop .inv .1) (room (c .before .before .before)) (c .with .ensures ∙ ap (insert (target .result)) (c .before .empty .ensures) ∙ ap (λ (u : ℕ). insert u emptySet) e),
+    )
 
--- src/lib.rt:53:1
 same-length : tie.Need-same-length Inv-loop μ-loop
 same-length c = search needs
 
--- src/lib.rt:53:1
 returns : tie.Need-returns Inv-loop μ-loop
-returns c = search needs
+returns c = filled-tabled (events (c .before .before .before .before .before .before .before .before .before .before .args .policy .now)) (c .before .loop .inv .1) (omega arith)
 
 pub fill-events-spec : {M : Type 1} → statement M
 fill-events-spec =

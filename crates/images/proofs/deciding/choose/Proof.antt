@@ -1,73 +1,89 @@
+-- `images::deciding::choose` meets its contract. The loop's invariant: the choice is that among the rules below k, and `rest` has the other rules, shifted down by k.
+use mathlib.Core.Path.{_≡_, sym, _∙_}
+use Prim.Native.Nat.{_≤_, _<_, _+_, _/_, _^_}
+use native.Mathlib.Omega.{arith}
+use lib.ListN.{length, getD}
+use lib.Pow.{shr-le}
 use borrow.Author.Needs.{needs}
+use Rattle.images.specs.Choice.{Chosen}
+use Rattle.rules.proofs.RuleSets.{Member, lowest-member, left-next}
+use Rattle.images.proofs.Choices.{chosen-turn, chosen-done}
 use Rattle.images.proofs.deciding.choose.Statement.{statement}
 use Rattle.images.proofs.deciding.choose.Tie as tie
-use Rattle.images.proofs.deciding.choose.Reads as reads
-use Rattle.images.proofs.deciding.choose.Lts as lts
-use Rattle.images.proofs.deciding.with_rule.Reads as with-rule-reads
-use Rattle.rules.proofs.sets.lowest.Reads as lowest-reads
-use Rattle.situation.proofs.Situation.empty.Reads as empty-reads
 
 abbrev Inv-loop : tie.InvT-loop
-Inv-loop fits ranks targets choice₀ rest₀ k₀ choice rest k = ?
+Inv-loop fits ranks targets choice₀ rest₀ k₀ choice rest k = (k ≤ length ranks) × (rest ≡ fits / 2 ^ k) × Chosen fits ranks targets k choice
 
 abbrev μ-loop : tie.MeasureT-loop
-μ-loop fits ranks targets choice₀ rest₀ k₀ choice rest k = ?
+μ-loop fits ranks targets choice₀ rest₀ k₀ choice rest k = rest
 
--- src/deciding.rt:65:9
+member : (c : tie.After-lowest Inv-loop μ-loop)
+    → let loop = c .before .before .loop in
+    Member (c .before .before .before .before .before .before .args .fits) (loop .k) (loop .k + c .lowest .result)
+member c =
+    let loop = c .before .before .loop in
+    lowest-member (c .before .before .before .before .before .before .args .fits) (loop .k) (loop .rest) (c .lowest .result) (omega arith) (loop .inv .1) (c .before .loop-test .taken) (c .lowest .ensures)
+
+listed : (c : tie.After-lowest Inv-loop μ-loop)
+    → let a = c .before .before .before .before .before .before .args in
+    let m = c .before .before .loop .k + c .lowest .result in
+    (m < length (a .ranks .now)) × (m < length (a .targets .now)) × (getD (a .targets .now) m 0 < 64)
+listed c = c .before .before .before .before .before .before .pre (c .before .before .loop .k + c .lowest .result) (member c .here)
+
 empty-requires : tie.Need-empty-requires Inv-loop μ-loop
 empty-requires c κs = search needs
 
--- src/deciding.rt:73:5
 loop-holds : tie.Need-loop-holds Inv-loop μ-loop
 loop-holds c = search needs
 
--- src/deciding.rt:74:13
 lowest-requires : tie.Need-lowest-requires Inv-loop μ-loop
 lowest-requires c κs = search needs
 
--- src/deciding.rt:75:13
 add-k : tie.Need-add-k Inv-loop μ-loop
-add-k c = search needs
+add-k c = omega (arith, member c .below)
 
--- src/deciding.rt:76:20
 mul-rank : tie.Need-mul-rank Inv-loop μ-loop
-mul-rank c = search needs
+mul-rank c = omega (arith, member c .below)
 
--- src/deciding.rt:76:20
 shared-slice-read-rank : tie.Need-shared-slice-read-rank Inv-loop μ-loop
-shared-slice-read-rank c = search needs
+shared-slice-read-rank c = listed (c .before) .0
 
--- src/deciding.rt:77:56
 mul-with-rule : tie.Need-mul-with-rule Inv-loop μ-loop
-mul-with-rule c = search needs
+mul-with-rule c = omega (arith, member (c .before) .below)
 
--- src/deciding.rt:77:56
 shared-slice-read-with-rule : tie.Need-shared-slice-read-with-rule Inv-loop μ-loop
-shared-slice-read-with-rule c = search needs
+shared-slice-read-with-rule c = listed (c .before .before) .1
 
--- src/deciding.rt:77:9
 with-rule-requires : tie.Need-with-rule-requires Inv-loop μ-loop
-with-rule-requires c κs = search needs
+with-rule-requires c κs = listed (c .before .before) .2
 
--- src/deciding.rt:78:17
 shr-rest : tie.Need-shr-rest Inv-loop μ-loop
-shr-rest c = search needs
+shr-rest c = omega (arith, member (c .before .before .before) .below)
 
--- src/deciding.rt:79:9
 add-k-2 : tie.Need-add-k-2 Inv-loop μ-loop
-add-k-2 c = search needs
+add-k-2 c = omega (arith, member (c .before .before .before) .below)
 
--- src/deciding.rt:73:5
 loop-less : tie.Need-loop-less Inv-loop μ-loop
-loop-less c = search needs
+loop-less c =
+    let h = shr-le (c .before .before .before .before .before .loop .rest) (c .before .before .before .lowest .result) in omega (arith, c .before .before .before .before .loop-test .taken, h)
 
--- src/deciding.rt:73:5
 loop-again : tie.Need-loop-again Inv-loop μ-loop
-loop-again c = search needs
+loop-again c =
+    let a = c .before .before .before .before .before .before .before .before .before .args in
+    let lowest = c .before .before .before .lowest in
+    let loop = c .before .before .before .before .before .loop in
+    let w = c .with-rule in (
+      omega (arith, listed (c .before .before .before)),
+      left-next (a .fits) (loop .k) (loop .rest) (lowest .result) (loop .inv .1),
+      chosen-turn (a .fits) (a .ranks .now) (a .targets .now) (loop .k) (loop .k + lowest .result) (loop .choice) (w .result) (omega arith) (member (c .before .before .before)) (loop .inv .2)
+          (w .ensures .0) (w .ensures .1) (w .ensures .2),
+    )
 
--- src/deciding.rt:61:1
 returns : tie.Need-returns Inv-loop μ-loop
-returns c = search needs
+returns c =
+    let a = c .before .before .before .before .before .args in
+    let loop = c .before .loop in
+    chosen-done (a .fits) (a .ranks .now) (a .targets .now) (loop .k) (length (a .ranks .now)) (loop .choice) (loop .inv .0) (sym (loop .inv .1) ∙ c .loop-test .left) (loop .inv .2)
 
 pub choose-spec : {M : Type 1} → statement M
 choose-spec =
