@@ -17,7 +17,7 @@ use Rattle.automaton.proofs.Tables.{table-length, row-of-table, table-wide}
 use Rattle.definitions.specs.Answer.{written}
 use Rattle.definitions.specs.Rows.{laid}
 use Rattle.automaton.specs.StateList.{stateList, afterCodes, rowAmong}
-use Rattle.explore.specs.Reaches.{Once, Visited, allReached, Reaches}
+use Rattle.explore.specs.Reaches.{Once, VisitedState, allReached, Reaches}
 use Rattle.automaton.proofs.StateList.{length-states}
 use Rattle.definitions.proofs.SearchArray.{Searched, searched-begun, searched-all, searched-low, searched-row, searched-turn, searched-done}
 use Rattle.definitions.proofs.Written.{take-written, written-again}
@@ -26,16 +26,16 @@ use Rattle.explore.proofs.Once.{once-one, once-after}
 use Rattle.automaton.proofs.Loops.{row-within}
 
 -- s states have been visited, n are found, and the rows of those visited are written
-pub record Reaching (m : Machine) (L : List Reached) (found₀ raw₀ found raw : List ℕ) (n s : ℕ) : Type 0 where
+pub record StatesReached (m : Machine) (L : List Reached) (found₀ raw₀ found raw : List ℕ) (n s : ℕ) : Type 0 where
   pub room : 128 ≤ length found₀
   pub long : 127 * m .width ≤ length raw₀
   pub search : Searched m 127 L found₀ found n s
   pub once : Once (take n found)
   pub rows : raw ≡ laid 0 (take s (table m L)) raw₀
 
-pub reaching-begun : (m : Machine) (L : List Reached) (found raw : List ℕ) → 128 ≤ length found → 127 * m .width ≤ length raw
-    → reached m 127 ≡ L → isState (m .start) ≡ true → Sound m L → Reaching m L (set found 0 (m .start)) raw (set found 0 (m .start)) raw 1 0
-reaching-begun m L found raw room long all begins sound = record {
+pub reached-begun : (m : Machine) (L : List Reached) (found raw : List ℕ) → 128 ≤ length found → 127 * m .width ≤ length raw
+    → reached m 127 ≡ L → isState (m .start) ≡ true → Sound m L → StatesReached m L (set found 0 (m .start)) raw (set found 0 (m .start)) raw 1 0
+reached-begun m L found raw room long all begins sound = record {
   room = rw length-set room;
   long = long;
   search = searched-begun m 127 L (set found 0 (m .start)) (omega arith) (rw length-set (omega arith)) (take-suc-set found 0 (m .start) (omega arith)) all sound;
@@ -53,15 +53,15 @@ reaches-from {m} {found} x room some reaches = record {
   rows = reaches .rows;
 }
 
-module _ {m : Machine} {L : List Reached} {found₀ raw₀ found raw : List ℕ} {n s : ℕ} (now : Reaching m L found₀ raw₀ found raw n s) where
+module _ {m : Machine} {L : List Reached} {found₀ raw₀ found raw : List ℕ} {n s : ℕ} (now : StatesReached m L found₀ raw₀ found raw n s) where
   few : n ≤ 127
   few = now .search .few
 
   all : n ≤ length L
   all = searched-all (now .search)
 
-  pub reaching-long : length raw ≡ length raw₀
-  reaching-long =
+  pub reached-long : length raw ≡ length raw₀
+  reached-long =
       let below : s ≤ 127 = omega (arith, now .search .inside, few) in
       let low = mul-le-mul-right (m .width) below in
       rw (now .rows)
@@ -69,13 +69,13 @@ module _ {m : Machine} {L : List Reached} {found₀ raw₀ found raw : List ℕ}
 
   module _ (b : s < n) where
     -- row s lies within
-    pub reaching-row : s * m .width + m .width ≤ length raw
-    reaching-row = omega (arith, row-within s 127 (m .width) (omega (arith, few)), reaching-long, now .long)
+    pub reached-row : s * m .width + m .width ≤ length raw
+    reached-row = omega (arith, row-within s 127 (m .width) (omega (arith, few)), reached-long, now .long)
 
     -- its state has been visited, with r found then
-    module _ {r : ℕ} {found′ part : List ℕ} (visited : Visited m (getD found s 0) (take n found) found (drop (s * m .width) raw) r found′ part) where
-      pub reaching-over : {found″ raw″ : List ℕ} → L ≡ allReached m → 127 < r → Reaches m found₀ raw₀ 0 found″ raw″
-      reaching-over e over =
+    module _ {r : ℕ} {found′ part : List ℕ} (visited : VisitedState m (getD found s 0) (take n found) found (drop (s * m .width) raw) r found′ part) where
+      pub reached-over : {found″ raw″ : List ℕ} → L ≡ allReached m → 127 < r → Reaches m found₀ raw₀ 0 found″ raw″
+      reached-over e over =
           let many : 127 < length L = omega (arith, visited .over over, searched-low (now .search) b) in
           record {
             count = rw (← e, lt-leb (length L) 127 many);
@@ -83,8 +83,8 @@ module _ {m : Machine} {L : List Reached} {found₀ raw₀ found raw : List ℕ}
             rows = λ l. absurd (omega arith);
           }
 
-      pub reaching-turn : r ≤ 127 → Reaching m L found₀ raw₀ found′ (putMid (s * m .width) (length raw - s * m .width) raw part) r (s + 1)
-      reaching-turn low =
+      pub reached-turn : r ≤ 127 → StatesReached m L found₀ raw₀ found′ (putMid (s * m .width) (length raw - s * m .width) raw part) r (s + 1)
+      reached-turn low =
           let row = rowAmong m (afterCodes m (getD found s 0) (m .width) (take n found)) (getD found s 0) in
           let is : row ≡ getD (table m L) s [] = searched-row (now .search) b ∙ sym (row-of-table m L s (omega (arith, all))) in
           record {
@@ -94,12 +94,12 @@ module _ {m : Machine} {L : List Reached} {found₀ raw₀ found raw : List ℕ}
             once = rw (visited .array low, take-written (afterCodes m (getD found s 0) (m .width) (take n found)) found r (sym (visited .count low)))
                 (once-after m (getD found s 0) (m .width) (take n found) (now .once));
             rows = laid-turn 0 (m .width) (table m L) raw₀ (table-wide m L) s raw part (s * m .width) (omega (arith, all, table-length m L))
-                (omega (arith, reaching-row, reaching-long)) (now .rows) (sym (zero-add (s * m .width)))
+                (omega (arith, reached-row, reached-long)) (now .rows) (sym (zero-add (s * m .width)))
                 (visited .numbers low ∙ ap (λ (row : List ℕ). written row (drop (s * m .width) raw)) is);
           }
 
-  pub reaching-done : L ≡ allReached m → n ≤ s → Reaches m found₀ raw₀ n found raw
-  reaching-done e l =
+  pub reached-done : L ≡ allReached m → n ≤ s → Reaches m found₀ raw₀ n found raw
+  reached-done e l =
       let done = searched-done (now .search) l in
       let same : s ≡ n = omega (arith, now .search .inside) in
       record {

@@ -12,7 +12,7 @@ use Rattle.automaton.specs.Explore.{visit}
 use Rattle.automaton.proofs.Counting.{length-list-below}
 use Rattle.definitions.specs.Answer.{written}
 use Rattle.automaton.specs.StateList.{stateList, bare, numberAmong, addState, afterCodes, rowAmong}
-use Rattle.explore.specs.Reaches.{Once, Visited}
+use Rattle.explore.specs.Reaches.{Once, VisitedState}
 use Rattle.automaton.proofs.StateList.{states-bare, number-states, number-low, added-length, added-few, after-more, after-grows}
 use Rattle.automaton.proofs.Congruence.{list-below-same}
 use Rattle.automaton.proofs.Turns.{visit-grows}
@@ -38,7 +38,7 @@ module _ (m : Machine) (s : ℕ) (l : List ℕ) where
       ∙ sym (number-states whole (step m s c)))
 
 -- the codes below c have been tried from state s of m, where l was found before: k states are found
-pub record Trying (m : Machine) (s : ℕ) (l found₀ row₀ found row : List ℕ) (k c : ℕ) : Type 0 where
+pub record CodesTried (m : Machine) (s : ℕ) (l found₀ row₀ found row : List ℕ) (k c : ℕ) : Type 0 where
   pub room : 128 ≤ length found₀
   pub long : m .width ≤ length row₀
   pub inside : c ≤ m .width
@@ -47,9 +47,9 @@ pub record Trying (m : Machine) (s : ℕ) (l found₀ row₀ found row : List �
   pub array : found ≡ written (afterCodes m s c l) found₀
   pub numbers : row ≡ written (listBelow c (numberAfter m s l)) row₀
 
-pub trying-begun : (m : Machine) (s n : ℕ) (found row : List ℕ) → 128 ≤ length found → m .width ≤ length row → n ≤ 127
-    → Trying m s (take n found) found row found row n 0
-trying-begun m s n found row room long few = record {
+pub tried-begun : (m : Machine) (s n : ℕ) (found row : List ℕ) → 128 ≤ length found → m .width ≤ length row → n ≤ 127
+    → CodesTried m s (take n found) found row found row n 0
+tried-begun m s n found row room long few = record {
   room = room;
   long = long;
   inside = omega arith;
@@ -59,20 +59,20 @@ trying-begun m s n found row room long few = record {
   numbers = refl;
 }
 
-module _ {m : Machine} {s : ℕ} {l found₀ row₀ found row : List ℕ} {k c : ℕ} (now : Trying m s l found₀ row₀ found row k c) where
-  pub trying-room : length found ≡ length found₀
-  trying-room = rw (now .array) (length-written (afterCodes m s c l) found₀ (omega (arith, now .count, now .few, now .room)))
+module _ {m : Machine} {s : ℕ} {l found₀ row₀ found row : List ℕ} {k c : ℕ} (now : CodesTried m s l found₀ row₀ found row k c) where
+  pub tried-room : length found ≡ length found₀
+  tried-room = rw (now .array) (length-written (afterCodes m s c l) found₀ (omega (arith, now .count, now .few, now .room)))
 
-  pub trying-row : length row ≡ length row₀
-  trying-row =
+  pub tried-row : length row ≡ length row₀
+  tried-row =
       rw (now .numbers)
       (length-written (listBelow c (numberAfter m s l)) row₀ (omega (arith, length-list-below (numberAfter m s l) c, now .inside, now .long)))
 
   old : take k found ≡ afterCodes m s c l
   old = rw (now .array) (take-written (afterCodes m s c l) found₀ k (sym (now .count)))
 
-  pub trying-once : Once l → Once (take k found)
-  trying-once once = rw old (once-after m s c l once)
+  pub tried-once : Once l → Once (take k found)
+  tried-once once = rw old (once-after m s c l once)
 
   -- code c is tried: it leads to x, whose number is then r
   module _ {x r : ℕ} {found′ : List ℕ} (b : c < m .width) (ex : x ≡ step m s c)
@@ -94,8 +94,8 @@ module _ {m : Machine} {s : ℕ} {l found₀ row₀ found row : List ℕ} {k c :
         let long : length (take k found) ≡ k = ap length old ∙ sym (now .count) in
         omega (arith, added-few (take k found) x, number-low (addState (take k found) x) x, now .few)
 
-    pub trying-turn : max k r ≤ 127 → Trying m s l found₀ row₀ found′ (set row c r) (max k r) (c + 1)
-    trying-turn few = record {
+    pub tried-turn : max k r ≤ 127 → CodesTried m s l found₀ row₀ found′ (set row c r) (max k r) (c + 1)
+    tried-turn few = record {
       room = now .room;
       long = now .long;
       inside = omega arith;
@@ -108,16 +108,16 @@ module _ {m : Machine} {s : ℕ} {l found₀ row₀ found row : List ℕ} {k c :
     }
 
     -- the 128th is found
-    pub trying-over : {found″ row″ : List ℕ} → 127 < max k r → Visited m s l found₀ row₀ (max k r) found″ row″
-    trying-over over = record {
+    pub tried-over : {found″ row″ : List ℕ} → 127 < max k r → VisitedState m s l found₀ row₀ (max k r) found″ row″
+    tried-over over = record {
       over = λ _. omega (arith, tried-count, after-grows m s l (suc c) (m .width) b);
       count = λ few. absurd (omega arith);
       array = λ few. absurd (omega arith);
       numbers = λ few. absurd (omega arith);
     }
 
-  pub trying-done : m .width ≤ c → Visited m s l found₀ row₀ k found row
-  trying-done e =
+  pub tried-done : m .width ≤ c → VisitedState m s l found₀ row₀ k found row
+  tried-done e =
       let all : c ≡ m .width = omega (arith, now .inside) in
       record {
         over = λ over. absurd (omega (arith, now .few));

@@ -15,7 +15,7 @@ use Rattle.definitions.specs.Bytes.{bit}
 use Rattle.definitions.specs.Situation.{emptySet, union}
 use Rattle.definitions.proofs.BookSteps.{is-state}
 use Rattle.definitions.proofs.Steps.{step-next}
-use Rattle.explore.specs.Images.{unionAt, unions, withImageAt, withImageIn, withImages, imageOfSetIn, imagesOfSet, imagesMachine}
+use Rattle.explore.specs.SetImages.{unionAt, unions, withImageAt, withImageIn, withImages, imageOfSetIn, imagesOfSet, imagesMachine}
 
 module _ (images : List ℕ) (w set : ℕ) where
   -- the images of valuation v are put in, or not
@@ -41,8 +41,8 @@ module _ (images : List ℕ) (w set : ℕ) where
       ap (withImageAt images w set c v) (getD-list-below (imageOfSetIn images v w set) w c 0 l) ∙ sym (fold-more (withImageAt images w set c) emptySet v))
 
   -- an entry of the row is a step
-  pub row-step : (valuations c : ℕ) {row : List ℕ} → 0 < set → row ≡ imagesOfSet images valuations w set → c < w
-      → getD row c 0 ≡ step (imagesMachine images valuations w) set c
-  row-step valuations c state is l =
+  pub row-step : (start valuations c : ℕ) {row : List ℕ} → 0 < set → row ≡ imagesOfSet images valuations w set → c < w
+      → getD row c 0 ≡ step (imagesMachine images valuations w start) set c
+  row-step start valuations c state is l =
       ap (λ (row : List ℕ). getD row c 0) is ∙ getD-list-below (imageOfSetIn images valuations w set) w c 0 l
-      ∙ sym (step-next (imagesMachine images valuations w) set c (is-state set state) l)
+      ∙ sym (step-next (imagesMachine images valuations w start) set c (is-state set state) l)

@@ -1,4 +1,4 @@
--- A table of images, one row of w sets for each valuation, and the machine on situations that it gives.
+-- A table of images, one row of w sets for each valuation, and the machine on situations that it gives with a start.
 use mathlib.Core.Bool.{cond}
 use mathlib.Core.List.{List}
 use Prim.Native.Nat.{ℕ, _+_, _*_}
@@ -6,7 +6,7 @@ use lib.ListN.{length, getD}
 use Rattle.automaton.specs.Below.{foldBelow, listBelow}
 use Rattle.automaton.specs.Machine.{Machine}
 use Rattle.definitions.specs.Bytes.{bit}
-use Rattle.definitions.specs.Situation.{emptySet, union, startSituation}
+use Rattle.definitions.specs.Situation.{emptySet, union}
 
 -- the set that code c leads to from valuation v
 abbrev pub imageAt : List ℕ → ℕ → ℕ → ℕ → ℕ
@@ -43,5 +43,5 @@ withImages images w set v sets = listBelow w (withImageIn images w set v sets)
 abbrev pub imagesOfSet : List ℕ → ℕ → ℕ → ℕ → List ℕ
 imagesOfSet images valuations w set = listBelow w (imageOfSetIn images valuations w set)
 
-abbrev pub imagesMachine : List ℕ → ℕ → ℕ → Machine
-imagesMachine images valuations w = record { width = w; start = startSituation; next = imageOfSetIn images valuations w }
+abbrev pub imagesMachine : List ℕ → ℕ → ℕ → ℕ → Machine
+imagesMachine images valuations w start = record { width = w; start = start; next = imageOfSetIn images valuations w }
