@@ -20,23 +20,24 @@ use Rattle.automaton.proofs.Tables.{table-length, table-is-table, table-wide}
 use Rattle.definitions.specs.Answer.{judge, refused, given, written}
 use Rattle.definitions.specs.Policy.{fields, requests, width, frame}
 use Rattle.definitions.specs.Valuation.{valuations}
-use Rattle.definitions.specs.Situation.{policyMachine}
+use Rattle.definitions.specs.Situation.{startSituation, policyMachine}
 use Rattle.definitions.specs.Book.{concat, bookBytes}
 use Rattle.definitions.specs.Refusal.{fileRefusal, situations, row11, policyRefusal}
 use Rattle.definitions.specs.Build.{bookRows, bookOf, buildRefusal, buildAnswer, buildBuffer}
 use Rattle.policy.specs.Sized.{Sized, Passed}
 use Rattle.policy.proofs.Checked.{passed}
-use Rattle.explore.specs.Images.{imagesMachine}
+use Rattle.images.specs.Images.{ImagesOf}
+use Rattle.explore.specs.SetImages.{imagesMachine}
 use Rattle.explore.specs.Reaches.{allReached, Reaches}
 use Rattle.definitions.specs.Rows.{rowsIn, TableIn}
-use Rattle.build.proofs.Policies.{ImagesOf, reached-policy, table-policy}
+use Rattle.build.proofs.Policies.{reached-policy, table-policy}
 use Rattle.definitions.proofs.Written.{length-written}
 use Rattle.definitions.proofs.BookBytes.{length-concat}
 use Rattle.definitions.proofs.RowsWritten.{rows-of-concat}
 
 -- ---- the sizes of a policy that has passed
 module _ (p : List ℕ) (e : fileRefusal p ≡ 0) where
-  has-passed : Passed p
+  pub has-passed : Passed p
   has-passed = passed p e
 
   pub width-low : width p ≤ 136
@@ -144,7 +145,7 @@ module _ (m : Machine) (begins : isState (m .start) ≡ true) where
 -- ---- the situations of a policy
 module _ (p images : List ℕ) (are : ImagesOf p images) where
   abbrev m : Machine
-  m = imagesMachine images (valuations p) (width p)
+  m = imagesMachine images (valuations p) (width p) startSituation
 
   pub situations-are : allReached m ≡ situations p
   unfolding allReached situations

@@ -11,6 +11,7 @@ ghost use Rattle.definitions.specs.Build.{buildAnswer, buildBuffer};
 ghost use Rattle.definitions.specs.Rows.{rowsIn, TableIn};
 ghost use Rattle.build.specs.Built.{builtAnswer};
 use policy::shape::Shape;
+use situation::Situation;
 
 // The book of a policy whose situations have the `n` rows of `raw`: alike ones are joined, numbered and written. Gives the book's length. The bytes after
 // it stay.
@@ -53,7 +54,8 @@ fn build_in(
     let shape = Shape::of(policy);
     let w = shape.width;
     images::fill_images(policy, shape, images);
-    let n = explore::explore(images, shape.valuations, w, found, raw);
+    let start = Situation::start();
+    let n = explore::explore(images, shape.valuations, w, start, found, raw);
     if n == 0 {
         return Built::Refused(11);
     }

@@ -22,7 +22,7 @@ use Rattle.explore.proofs.explore_in.Tie as tie
 abbrev Inv-loop : tie.InvT-loop
 Inv-loop images valuations w found₀ raw₀ next₀ hints₀ n₀ s₀ found raw next hints n s =
     ((start : ℕ) → 0 < start → getD found₀ 0 0 ≡ start
-        → StatesReached (imagesMachine images valuations w start) (allReached (imagesMachine images valuations w start)) found₀ raw₀ found raw n s)
+    → StatesReached (imagesMachine images valuations w start) (allReached (imagesMachine images valuations w start)) found₀ raw₀ found raw n s)
     × (length next ≡ w) × (length hints ≡ length hints₀)
 
 abbrev μ-loop : tie.MeasureT-loop
