@@ -38,12 +38,12 @@ module _ (class : ℕ → ℕ) where
   pub rank-more : (n : ℕ) → class (suc n) ≡ suc n → rank class (suc n) ≡ suc (rank class n)
   rank-more n e = omega (arith, ap length (firsts-more n e), length-append (firsts class n) (suc n ∷ []))
 
-  rank-grows : (n : ℕ) → rank class n ≤ rank class (suc n)
+  rank-grows : (n : ℕ) → (rank class n ≤ rank class (suc n)) × (rank class (suc n) ≤ suc (rank class n))
   rank-grows n = go (ℕ-discrete (class (suc n)) (suc n))
     where
-      go : Dec (class (suc n) ≡ suc n) → rank class n ≤ rank class (suc n)
-      go (yes e) = omega (arith, rank-more n e)
-      go (no d) = omega (arith, ap length (firsts-same n d))
+      go : Dec (class (suc n) ≡ suc n) → (rank class n ≤ rank class (suc n)) × (rank class (suc n) ≤ suc (rank class n))
+      go (yes e) = let more = rank-more n e in (omega arith, omega arith)
+      go (no d) = let same = ap length (firsts-same n d) in (omega arith, omega arith)
 
   pub rank-le : (s n : ℕ) → s ≤ n → rank class s ≤ rank class n
   rank-le s zero l = let e : s ≡ 0 = omega arith in omega (arith, ap (rank class) e)
@@ -59,11 +59,7 @@ module _ (class : ℕ → ℕ) where
 
   pub rank-low : (n : ℕ) → rank class n ≤ n
   rank-low zero = omega arith
-  rank-low (suc n) = go (ℕ-discrete (class (suc n)) (suc n)) (rank-low n)
-    where
-      go : Dec (class (suc n) ≡ suc n) → rank class n ≤ n → rank class (suc n) ≤ suc n
-      go (yes e) ih = omega (arith, rank-more n e)
-      go (no d) ih = omega (arith, ap length (firsts-same n d))
+  rank-low (suc n) = omega (arith, rank-low n, rank-grows n)
 
   pub first-at : (n k : ℕ) → k < rank class n → FirstAt class n k (getD (firsts class n) k 0)
   first-at zero k l = absurd (omega arith)

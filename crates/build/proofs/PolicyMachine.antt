@@ -11,17 +11,14 @@ use Rattle.automaton.specs.Table.{table}
 use Rattle.definitions.specs.Bytes.{bit}
 use Rattle.definitions.specs.Policy.{width}
 use Rattle.definitions.specs.Valuation.{valuations}
-use Rattle.definitions.specs.Situation.{image, union, withImage, imageOfSet, policyMachine}
-use Rattle.explore.specs.Images.{imageAt, withImageAt, imageOfSetIn, imagesMachine}
+use Rattle.definitions.specs.Situation.{startSituation, union, withImage, imageOfSet, policyMachine}
+use Rattle.images.specs.Images.{ImagesOf}
+use Rattle.explore.specs.SetImages.{withImageAt, imageOfSetIn, imagesMachine}
 use Rattle.automaton.proofs.Congruence.{fold-below-same, reached-same, table-same}
-
--- the table has the image of each valuation under each code
-abbrev pub ImagesOf : List ℕ → List ℕ → Type 0
-ImagesOf p images = (v c : ℕ) → v < valuations p → c < width p → imageAt images (width p) c v ≡ image p c v
 
 module _ (p images : List ℕ) (are : ImagesOf p images) where
   abbrev m : Machine
-  m = imagesMachine images (valuations p) (width p)
+  m = imagesMachine images (valuations p) (width p) startSituation
 
   next-same : (set c : ℕ) → c < width p → imageOfSetIn images (valuations p) (width p) set c ≡ imageOfSet p set c
   next-same set c l =

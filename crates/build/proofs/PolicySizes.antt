@@ -12,7 +12,7 @@ use Rattle.policy.specs.Sized.{Sized, Passed}
 use Rattle.policy.proofs.Checked.{passed}
 
 module _ (p : List ℕ) (e : fileRefusal p ≡ 0) where
-  has-passed : Passed p
+  pub has-passed : Passed p
   has-passed = passed p e
 
   pub width-low : width p ≤ 136

@@ -19,16 +19,17 @@ use Rattle.automaton.proofs.Tables.{table-length, table-is-table, table-wide, t
 use Rattle.definitions.specs.Answer.{written}
 use Rattle.definitions.specs.Policy.{width}
 use Rattle.definitions.specs.Valuation.{valuations}
-use Rattle.definitions.specs.Situation.{policyMachine}
+use Rattle.definitions.specs.Situation.{startSituation, policyMachine}
 use Rattle.definitions.specs.Book.{concat}
 use Rattle.definitions.specs.Refusal.{situations}
-use Rattle.explore.specs.Images.{imagesMachine}
+use Rattle.explore.specs.SetImages.{imagesMachine}
+use Rattle.images.specs.Images.{ImagesOf}
 use Rattle.explore.specs.Reaches.{allReached, Reaches}
 use Rattle.definitions.specs.Rows.{rowsIn, TableIn}
 use Rattle.definitions.proofs.Written.{length-written}
 use Rattle.definitions.proofs.BookBytes.{length-concat}
 use Rattle.definitions.proofs.RowsWritten.{rows-of-concat}
-use Rattle.build.proofs.PolicyMachine.{ImagesOf, reached-policy, table-policy}
+use Rattle.build.proofs.PolicyMachine.{reached-policy, table-policy}
 use Rattle.automaton.specs.Ordered.{Ordered}
 
 -- every entry of a table is at most k
@@ -125,7 +126,7 @@ pub record SituationRows (p raw : List ℕ) (n : ℕ) : Type 0 where
 
 module _ (p images : List ℕ) (are : ImagesOf p images) where
   abbrev m : Machine
-  m = imagesMachine images (valuations p) (width p)
+  m = imagesMachine images (valuations p) (width p) startSituation
 
   situations-are : allReached m ≡ situations p
   unfolding allReached situations

@@ -15,6 +15,7 @@ ghost use Rattle.definitions.specs.Rows.{rowsIn, TableIn};
 ghost use Rattle.build.specs.BuiltAnswer.{builtAnswer};
 use automaton::wide;
 use policy::shape::Shape;
+use situation::Situation;
 
 // Byte `i` of the frame of a policy: the number of events, that of fields, the value count of a field, and 0 for an absent field.
 fn frame_byte(policy: &[u8], i: usize) -> u8
@@ -72,7 +73,8 @@ fn build_in(policy: &[u8], book: &mut [u8], images: &mut [u64], raw: &mut [u8]) 
     let shape = Shape::of(policy);
     let w = shape.width;
     images::fill_images(policy, shape, images);
-    let n = explore::explore(images, shape.valuations, w, &mut found, raw);
+    let start = Situation::start();
+    let n = explore::explore(images, shape.valuations, w, start, &mut found, raw);
     if n == 0 {
         return Built::Refused(11);
     }

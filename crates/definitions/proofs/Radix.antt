@@ -128,10 +128,10 @@ module _ (sizes : ℕ → ℕ) where
       let last : suc j + (n - suc j) ≡ n = omega arith in
       rw (more, last) (mul-comm (highWorth sizes n j) (sizes n))
 
-  digit-before : (n r j : ℕ) → j < n → highDigit sizes (suc n) r j ≡ highDigit sizes n (r / sizes n) j
+  pub digit-before : (n r j : ℕ) → j < n → highDigit sizes (suc n) r j ≡ highDigit sizes n (r / sizes n) j
   digit-before n r j l = rw (worth-more n j l, div-div-eq-div-mul r (sizes n) (highWorth sizes n j))
 
-  digit-last : (n r : ℕ) → highDigit sizes (suc n) r n ≡ r % sizes n
+  pub digit-last : (n r : ℕ) → highDigit sizes (suc n) r n ≡ r % sizes n
   digit-last n r = let none : suc n - suc n ≡ 0 = omega arith in rw (none, div-one r)
 
   pub high-digit-below : (n r j : ℕ) → 1 ≤ sizes j → highDigit sizes n r j < sizes j

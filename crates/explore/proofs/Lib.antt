@@ -1,6 +1,6 @@
-pub mod Rows
-pub mod Places
+pub mod SetRows
+pub mod StatePlaces
 pub mod Once
-pub mod Noting
-pub mod Visiting
-pub mod Reaching
+pub mod StateEntry
+pub mod Visits
+pub mod ReachedStates

@@ -1,2 +1,2 @@
-pub mod Images
+pub mod SetImages
 pub mod Reaches

@@ -10,6 +10,7 @@ use Rattle.automaton.specs.Explore.{Reached, reached}
 use Rattle.automaton.specs.Table.{table}
 use Rattle.definitions.specs.Answer.{written}
 use Rattle.definitions.specs.Book.{concat}
+use Rattle.explore.specs.SetImages.{imagesMachine}
 use Rattle.automaton.specs.StateList.{stateList, numberAmong, afterCodes, rowAmong}
 
 -- each number of the list is a state and stands once: its number is its place
@@ -22,11 +23,15 @@ isNumber found n x number = ltb 0 number && (leb number n && eqb (getD found (nu
 
 -- state s of m has been visited, with those in l found before: r are found then, in the array found′, and row′ has their numbers. Where r is over 127 there
 -- are over 127, and nothing is said of the arrays
-pub record Visited (m : Machine) (s : ℕ) (l found row : List ℕ) (r : ℕ) (found′ row′ : List ℕ) : Type 0 where
+pub record VisitedState (m : Machine) (s : ℕ) (l found row : List ℕ) (r : ℕ) (found′ row′ : List ℕ) : Type 0 where
   pub over : 127 < r → 127 < length (afterCodes m s (m .width) l)
   pub count : r ≤ 127 → r ≡ length (afterCodes m s (m .width) l)
   pub array : r ≤ 127 → found′ ≡ written (afterCodes m s (m .width) l) found
   pub numbers : r ≤ 127 → row′ ≡ written (rowAmong m (afterCodes m s (m .width) l) s) row
+
+-- the same for the machine of a table of images, from whatever start
+abbrev pub VisitedByImages : List ℕ → ℕ → ℕ → ℕ → List ℕ → List ℕ → List ℕ → ℕ → List ℕ → List ℕ → Type 0
+VisitedByImages images valuations w s l found row r found′ row′ = (start : ℕ) → VisitedState (imagesMachine images valuations w start) s l found row r found′ row′
 
 -- how many there are, and 0 for more than `most`
 abbrev pub atMost : ℕ → ℕ → ℕ

@@ -5,9 +5,9 @@ ghost use lib.Dec.{eqb};
 ghost use lib.ListN.{length, take};
 ghost use Rattle.automaton.specs.Below.{placeOf};
 ghost use Rattle.definitions.specs.Answer.{written};
-ghost use Rattle.explore.specs.Images.{emptySets, unions, withImages, imagesOfSet, imagesMachine};
+ghost use Rattle.explore.specs.SetImages.{emptySets, unions, withImages, imagesOfSet, imagesMachine};
 ghost use Rattle.automaton.specs.StateList.{numberAmong, addState};
-ghost use Rattle.explore.specs.Reaches.{Once, isNumber, Visited, Reaches};
+ghost use Rattle.explore.specs.Reaches.{Once, isNumber, VisitedByImages, Reaches};
 use automaton::wide;
 use situation::Situation;
 
@@ -139,7 +139,7 @@ fn greater(a: usize, b: usize) -> usize
 }
 
 // The codes are tried, in order, from a situation that was found: the row gets the numbers of the situations that they lead to, and new ones are put in
-// after the first `n`. Gives how many are found then. It stops at the 128th: then it gives 128, and neither list is whole. The last two slices are room to
+// after the first `n`. Returns how many are found then. It stops at the 128th: then it returns 128, and neither list is whole. The last two slices are room to
 // work in; nothing is said of what they hold afterwards.
 fn visit(
     images: &[u64],
@@ -155,7 +155,7 @@ fn visit(
     requires { ⌜ (valuations ≤ 64) × (valuations * w ≤ length (now images)) × (length (now next) ≡ w) ⌝ }
     requires { ⌜ (n ≤ 127) × (128 ≤ length (now found)) × (w ≤ length (now row)) × (0 < situation .set) ⌝ }
     requires { ⌜ (256 ≤ length (now hints)) × Once (take n (now found)) ⌝ }
-    ensures { λ r. ⌜ Visited (imagesMachine (now (images .entry)) valuations w) (situation .set) (take n (now (found .entry)))
+    ensures { λ r. ⌜ VisitedByImages (now (images .entry)) valuations w (situation .set) (take n (now (found .entry)))
         (now (found .entry)) (now (row .entry)) r (now (found .exit)) (now (row .exit)) ⌝ }
 {
     step_all(images, valuations, w, situation, next);
@@ -173,24 +173,24 @@ fn visit(
     k
 }
 
-// The situations that histories reach, in the order of their earliest history, with the rows of the table of their steps one after another in `raw`.
-// Gives how many there are; 0 if there are over 127, and then nothing is said of what `found` and `raw` hold. The last two slices are room to work in;
-// nothing is said of what they hold afterwards.
+// The situations that histories from the start reach, in the order of their earliest history, with the rows of the table of their steps one after another
+// in `raw`. Returns how many there are; 0 if there are over 127, and then nothing is said of what `found` and `raw` hold. The last two slices are room to
+// work in; nothing is said of what they hold afterwards.
 fn explore_in(
     images: &[u64],
     valuations: usize,
     w: usize,
+    start: Situation,
     found: &mut [u64],
     raw: &mut [u8],
     next: &mut [u64],
     hints: &mut [u8],
 ) -> usize
-    requires { ⌜ (valuations ≤ 64) × (valuations * w ≤ length (now images)) × (length (now next) ≡ w) ⌝ }
+    requires { ⌜ (valuations ≤ 64) × (valuations * w ≤ length (now images)) × (length (now next) ≡ w) × (0 < start .set) ⌝ }
     requires { ⌜ (128 ≤ length (now found)) × (127 * w ≤ length (now raw)) × (256 ≤ length (now hints)) ⌝ }
-    ensures { λ r. ⌜ Reaches (imagesMachine (now (images .entry)) valuations w)
+    ensures { λ r. ⌜ Reaches (imagesMachine (now (images .entry)) valuations w (start .set))
         (now (found .entry)) (now (raw .entry)) r (now (found .exit)) (now (raw .exit)) ⌝ }
 {
-    let start = Situation::start();
     found[0] = start.set;
     let mut n = 1;
     let mut s = 0;
@@ -221,12 +221,13 @@ pub fn explore(
     images: &[u64],
     valuations: usize,
     w: usize,
+    start: Situation,
     found: &mut [u64],
     raw: &mut [u8],
 ) -> usize
-    requires { ⌜ (valuations ≤ 64) × (w ≤ 136) × (valuations * w ≤ length (now images)) ⌝ }
+    requires { ⌜ (valuations ≤ 64) × (w ≤ 136) × (valuations * w ≤ length (now images)) × (0 < start .set) ⌝ }
     requires { ⌜ (128 ≤ length (now found)) × (127 * w ≤ length (now raw)) ⌝ }
-    ensures { λ r. ⌜ Reaches (imagesMachine (now (images .entry)) valuations w)
+    ensures { λ r. ⌜ Reaches (imagesMachine (now (images .entry)) valuations w (start .set))
         (now (found .entry)) (now (raw .entry)) r (now (found .exit)) (now (raw .exit)) ⌝ }
 {
     let mut next = [0u64; 136];
@@ -235,6 +236,7 @@ pub fn explore(
         images,
         valuations,
         w,
+        start,
         found,
         raw,
         &mut next[..w],

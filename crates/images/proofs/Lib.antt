@@ -1,4 +1,4 @@
-pub mod Levels
-pub mod Choosing
+pub mod GreatestLevel
+pub mod Choices
 pub mod Targets
-pub mod Imaged
+pub mod ImageRows

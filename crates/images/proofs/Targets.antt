@@ -8,24 +8,24 @@ use Rattle.definitions.specs.Policy.{events, fields, variables, rule, change, e
 use Rattle.definitions.specs.Situation.{emptySet, insert}
 use Rattle.policy.specs.Sized.{RuleOf, ChangesOf}
 use Rattle.policy.proofs.Parts.{change-within}
-use Rattle.rules.specs.Valuations.{Spread, spread, carriedBy}
+use Rattle.rules.specs.Changes.{ChangesIn, changeAt, carriedBy}
 use Rattle.images.specs.Images.{ruleTarget, eventFrom}
-use Rattle.rules.proofs.Valuations.{carried-same}
+use Rattle.rules.proofs.Changes.{carried-same}
 
 -- a rule's changes stand three bytes apart, from the fifth byte after its masks on
-pub rule-spread : (p q : List ℕ) (f : ℕ) → RuleOf p q → f ≡ fields p → Spread q (2 * f + 4) 3 (variables p)
-rule-spread p q f h e j l = let w = h .whole in omega arith
+pub rule-changes : (p q : List ℕ) (f : ℕ) → RuleOf p q → f ≡ fields p → ChangesIn q (2 * f + 4) 3 (variables p)
+rule-changes p q f h e j l = let w = h .whole in omega arith
 
-pub rule-target : (p q : List ℕ) (f k : ℕ) (x : ℕ → ℕ) (u : ℕ) → u ≡ carriedBy p (spread q (2 * f + 4) 3) x → q ≡ rule p k → f ≡ fields p → u ≡ ruleTarget p x k
+pub rule-target : (p q : List ℕ) (f k : ℕ) (x : ℕ → ℕ) (u : ℕ) → u ≡ carriedBy p (changeAt q (2 * f + 4) 3) x → q ≡ rule p k → f ≡ fields p → u ≡ ruleTarget p x k
 rule-target p q f k x u eu eq ef = eu ∙ rw (eq, ef)
 
 -- an event's changes stand side by side
 module _ (p t : List ℕ) (step e : ℕ) (h : ChangesOf p t) (es : step ≡ variables p) where
-  pub event-spread : e < events p → Spread t (e * step) 1 (variables p)
-  event-spread l j m = rw es (let w = change-within p t h e j l m in omega arith)
+  pub event-changes : e < events p → ChangesIn t (e * step) 1 (variables p)
+  event-changes l j m = rw es (let w = change-within p t h e j l m in omega arith)
 
-  pub event-target : (x : ℕ → ℕ) (u : ℕ) → u ≡ carriedBy p (spread t (e * step) 1) x → u ≡ carriedBy p (eventChange p e) x
-  event-target x u eu = eu ∙ carried-same p (spread t (e * step) 1) (eventChange p e) x x (λ j l. rw (es, h .changes, one-mul)) (λ j l. refl)
+  pub event-target : (x : ℕ → ℕ) (u : ℕ) → u ≡ carriedBy p (changeAt t (e * step) 1) x → u ≡ carriedBy p (eventChange p e) x
+  event-target x u eu = eu ∙ carried-same p (changeAt t (e * step) 1) (eventChange p e) x x (λ j l. rw (es, h .changes, one-mul)) (λ j l. refl)
 
 -- equal values of the variables lead to equal valuations
 module _ (p : List ℕ) (x y : ℕ → ℕ) (same : (j : ℕ) → j < variables p → x j ≡ y j) where

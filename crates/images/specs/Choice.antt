@@ -1,8 +1,8 @@
--- The greatest level among the rules of a set, and the sets of valuations that the rules of that level lead to, by tables of one entry for each rule.
+-- The greatest level among the rules of a set, and the sets of valuations that the rules of that level lead to, by arrays of one entry for each rule.
 use mathlib.Core.Path.{_≡_}
 use mathlib.Core.Bool.{cond, true, _&&_}
 use mathlib.Core.List.{List}
-use Prim.Native.Nat.{ℕ, _<_, max}
+use Prim.Native.Nat.{ℕ, _/_, _%_, _<_, max}
 use lib.Bits.{bitAnd}
 use lib.Dec.{eqb, ltb}
 use lib.ListN.{length, getD}
@@ -12,10 +12,17 @@ use Rattle.definitions.specs.Situation.{emptySet, insert}
 use Rattle.definitions.specs.Codes.{requestOf, decisionOf}
 use Rattle.images.specs.declared.deciding.Choice.{Choice}
 
+-- ---- the rank of a rule has its level and its decision
+abbrev pub levelAt : List ℕ → ℕ → ℕ
+levelAt ranks k = getD ranks k 0 / 2
+
+abbrev pub decisionAt : List ℕ → ℕ → ℕ
+decisionAt ranks k = getD ranks k 0 % 2
+
 -- every rule of the set has its entries
-abbrev pub Listed : ℕ → List ℕ → List ℕ → List ℕ → Type 0
-Listed fits levels decisions targets =
-    (k : ℕ) → bit fits k ≡ true → (k < length levels) × (k < length decisions) × (k < length targets) × (getD targets k 0 < 64)
+abbrev pub Listed : ℕ → List ℕ → List ℕ → Type 0
+Listed fits ranks targets =
+    (k : ℕ) → bit fits k ≡ true → (k < length ranks) × (k < length targets) × (getD targets k 0 < 64)
 
 -- ---- one rule more
 
@@ -34,34 +41,34 @@ withTarget best level decision d target set = cond (ltb level best) set (withDec
 -- ---- the first n rules
 
 abbrev pub levelIn : ℕ → List ℕ → ℕ → ℕ
-levelIn fits levels k = cond (bit fits k) (getD levels k 0) 0
+levelIn fits ranks k = cond (bit fits k) (levelAt ranks k) 0
 
 abbrev pub withMost : (ℕ → ℕ) → ℕ → ℕ → ℕ
 withMost f k most = max most (f k)
 
 -- the greatest level of those in the set, 0 if there are none
 abbrev pub greatest : ℕ → List ℕ → ℕ → ℕ
-greatest fits levels n = foldBelow n 0 (withMost (levelIn fits levels))
+greatest fits ranks n = foldBelow n 0 (withMost (levelIn fits ranks))
 
-abbrev pub withChosen : ℕ → List ℕ → List ℕ → List ℕ → ℕ → ℕ → ℕ → ℕ → ℕ
-withChosen fits levels decisions targets best d k set =
+abbrev pub withChosen : ℕ → List ℕ → List ℕ → ℕ → ℕ → ℕ → ℕ → ℕ
+withChosen fits ranks targets best d k set =
     let more = insert (getD targets k 0) set in
-    cond (eqb (getD decisions k 0) d && (bit fits k && eqb (getD levels k 0) best)) more set
+    cond (eqb (decisionAt ranks k) d && (bit fits k && eqb (levelAt ranks k) best)) more set
 
 -- where those in the set of level `best` and decision d lead
-abbrev pub chosenBy : ℕ → List ℕ → List ℕ → List ℕ → ℕ → ℕ → ℕ → ℕ
-chosenBy fits levels decisions targets n best d = foldBelow n emptySet (withChosen fits levels decisions targets best d)
+abbrev pub chosenBy : ℕ → List ℕ → List ℕ → ℕ → ℕ → ℕ → ℕ
+chosenBy fits ranks targets n best d = foldBelow n emptySet (withChosen fits ranks targets best d)
 
 -- where those in the set of the greatest level and decision d lead
-abbrev pub leading : ℕ → List ℕ → List ℕ → List ℕ → ℕ → ℕ → ℕ
-leading fits levels decisions targets n d = chosenBy fits levels decisions targets n (greatest fits levels n) d
+abbrev pub leading : ℕ → List ℕ → List ℕ → ℕ → ℕ → ℕ
+leading fits ranks targets n d = chosenBy fits ranks targets n (greatest fits ranks n) d
 
-abbrev pub Chosen : ℕ → List ℕ → List ℕ → List ℕ → ℕ → Choice → Type 0
-Chosen fits levels decisions targets n choice =
-    (choice .best ≡ greatest fits levels n) × (choice .accepted .set ≡ leading fits levels decisions targets n 1)
-    × (choice .rejected .set ≡ leading fits levels decisions targets n 0)
+abbrev pub Chosen : ℕ → List ℕ → List ℕ → ℕ → Choice → Type 0
+Chosen fits ranks targets n choice =
+    (choice .best ≡ greatest fits ranks n) × (choice .accepted .set ≡ leading fits ranks targets n 1)
+    × (choice .rejected .set ≡ leading fits ranks targets n 0)
 
--- the set for code c, where codes from E on are decided requests: entry r of `lets` has the rules that let request r through
-abbrev pub chosenFor : List ℕ → ℕ → List ℕ → List ℕ → List ℕ → ℕ → ℕ → ℕ
-chosenFor lets enabled levels decisions targets E c =
-    leading (bitAnd (getD lets (requestOf E c) 0) enabled) levels decisions targets (length levels) (decisionOf E c)
+-- the set for code c of the decided requests, counted from 0: entry r of `sets` has the rules that match request r
+abbrev pub chosenFor : List ℕ → ℕ → List ℕ → List ℕ → ℕ → ℕ
+chosenFor sets enabled ranks targets c =
+    leading (bitAnd (getD sets (requestOf 0 c) 0) enabled) ranks targets (length ranks) (decisionOf 0 c)

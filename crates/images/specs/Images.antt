@@ -1,23 +1,19 @@
--- What the tables hold from which the images are filled, and the table of images.
+-- What the arrays hold from which the images are filled, and the table of images.
 use mathlib.Core.Path.{_≡_}
 use mathlib.Core.List.{List}
-use Prim.Native.Nat.{ℕ, _+_, _*_, _/_, _%_, _<_, _≤_}
+use Prim.Native.Nat.{ℕ, _+_, _*_, _/_, _%_, _<_}
 use lib.ListN.{length, getD}
-use Rattle.definitions.specs.Policy.{variables, rules, requests, width, rule, decision, level, change, eventChange}
-use Rattle.definitions.specs.Valuation.{bound, valuations}
+use Rattle.definitions.specs.Policy.{events, variables, rules, requests, width, rule, decision, level, change, eventChange}
+use Rattle.definitions.specs.Valuation.{bound, valuations, variableIn}
 use Rattle.definitions.specs.Situation.{emptySet, insert, image}
-use Rattle.policy.specs.declared.shape.Shape.{Shape}
-use Rattle.policy.specs.Shape.{shapeOf}
-use Rattle.policy.specs.Sized.{Passed, TableOf}
-use Rattle.rules.specs.Tables.{Tabled}
-use Rattle.rules.specs.Rules.{lettingRequest}
-use Rattle.rules.specs.Valuations.{carriedBy}
+use Rattle.policy.specs.Sized.{Passed}
+use Rattle.rules.specs.Arrays.{Tabled}
+use Rattle.rules.specs.RuleSets.{matching}
+use Rattle.rules.specs.Changes.{carriedBy}
 
-abbrev pub ruleLevel : List ℕ → ℕ → ℕ
-ruleLevel p k = level p (rule p k)
-
-abbrev pub ruleDecision : List ℕ → ℕ → ℕ
-ruleDecision p k = decision p (rule p k)
+-- the level and the decision of rule k as one number
+abbrev pub ruleRank : List ℕ → ℕ → ℕ
+ruleRank p k = 2 * level p (rule p k) + decision p (rule p k)
 
 -- ---- where rules and events lead from the values x of the variables. At the values of valuation v these are byRule and eventImage
 abbrev pub ruleTarget : List ℕ → (ℕ → ℕ) → ℕ → ℕ
@@ -26,28 +22,31 @@ ruleTarget p x k = carriedBy p (change p (rule p k)) x
 abbrev pub eventFrom : List ℕ → (ℕ → ℕ) → ℕ → ℕ
 eventFrom p x e = insert (carriedBy p (eventChange p e) x) emptySet
 
+-- what is made once for all valuations: the arrays of the bounds, of the rules that match each request, and of the ranks of the rules
+pub record Prepared (p bounds sets ranks : List ℕ) : Type 0 where
+  pub passed : Passed p
+  pub bounded : Tabled (variables p) (bound p) bounds
+  pub counted : length sets ≡ requests p
+  pub matched : Tabled (requests p) (matching p) sets
+  pub ranked : Tabled (rules p) (ruleRank p) ranks
+
 -- ---- the images
 
 -- those from valuation v, by code
 abbrev pub imageFrom : List ℕ → ℕ → ℕ → ℕ
 imageFrom p v c = image p c v
 
--- what is made once for all valuations: the part with the rules, and the tables of the bounds, of the rules that let each request through, and of the levels and decisions
-pub record Prepared (p table : List ℕ) (shape : Shape) (bounds lets levels decisions : List ℕ) : Type 0 where
-  pub passed : Passed p
-  pub ruled : TableOf p table
-  pub shaped : shape ≡ shapeOf p
-  pub bounded : Tabled 0 (variables p) (bound p) bounds
-  pub letting : Tabled 0 (requests p) (lettingRequest p) lets
-  pub leveled : Tabled 0 (rules p) (ruleLevel p) levels
-  pub deciding : Tabled 0 (rules p) (ruleDecision p) decisions
+-- those of the decided requests, by code counted from 0, where the array has the values of the variables in v
+abbrev pub decidedFrom : List ℕ → ℕ → ℕ → ℕ
+decidedFrom p v c = image p (events p + c) v
+
+abbrev pub DecidedBy : List ℕ → List ℕ → List ℕ → Type 0
+DecidedBy p values row = (v : ℕ) → Tabled (variables p) (variableIn p v) values → Tabled (2 * requests p) (decidedFrom p v) row
 
 -- entry v × w + c of the table of images
 abbrev pub imageEntry : List ℕ → ℕ → ℕ
 imageEntry p i = image p (i % width p) (i / width p)
 
--- every image has been filled in, and what follows them stays
-pub record ImagesFilled (p before after : List ℕ) : Type 0 where
-  pub same-length : length after ≡ length before
-  pub entry : (v c : ℕ) → v < valuations p → c < width p → getD after (v * width p + c) 0 ≡ image p c v
-  pub beyond : (i : ℕ) → valuations p * width p ≤ i → getD after i 0 ≡ getD before i 0
+-- the table has the image of each valuation under each code
+abbrev pub ImagesOf : List ℕ → List ℕ → Type 0
+ImagesOf p images = (v c : ℕ) → v < valuations p → c < width p → getD images (v * width p + c) 0 ≡ image p c v

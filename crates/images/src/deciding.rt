@@ -1,8 +1,8 @@
-// Which of the rules that fit a request apply, by tables of one entry for each rule, and where they lead.
+// Which of the rules that fit a request apply, by arrays of one entry for each rule, and where they lead.
 ghost use mathlib.Core.Path.{_≡_};
-ghost use Prim.Native.Nat.{_+_, _*_, _<_, _≤_, max};
+ghost use Prim.Native.Nat.{_*_, _<_, _≤_, max};
 ghost use lib.ListN.{length};
-ghost use Rattle.rules.specs.Tables.{Filled};
+ghost use Rattle.rules.specs.Arrays.{Tabled};
 ghost use Rattle.images.specs.Choice.{withDecided, kept, withTarget, Listed, Chosen, chosenFor};
 use rules::sets;
 use situation::Situation;
@@ -58,9 +58,9 @@ fn with_rule(choice: Choice, level: usize, decision: usize, target: usize) -> Ch
 }
 
 // The choice among the rules that fit.
-fn choose(fits: u64, levels: &[usize], decisions: &[usize], targets: &[usize]) -> Choice
-    requires { ⌜ Listed fits (now levels) (now decisions) (now targets) ⌝ }
-    ensures { λ r. ⌜ Chosen fits (now (levels .entry)) (now (decisions .entry)) (now (targets .entry)) (length (now (levels .entry))) r ⌝ }
+fn choose(fits: u64, ranks: &[usize], targets: &[usize]) -> Choice
+    requires { ⌜ Listed fits (now ranks) (now targets) ⌝ }
+    ensures { λ r. ⌜ Chosen fits (now (ranks .entry)) (now (targets .entry)) (length (now (ranks .entry))) r ⌝ }
 {
     let none = Situation::empty();
     let mut choice = Choice {
@@ -68,38 +68,35 @@ fn choose(fits: u64, levels: &[usize], decisions: &[usize], targets: &[usize]) -
         accepted: none,
         rejected: none,
     };
-    let mut left = fits;
+    let mut rest = fits;
     let mut k = 0;
-    while left != 0 {
-        let zeros = sets::lowest(left);
+    while rest != 0 {
+        let zeros = sets::lowest(rest);
         k = k + zeros;
-        choice = with_rule(choice, levels[k], decisions[k], targets[k]);
-        left = (left >> zeros) / 2;
+        let rank = ranks[k];
+        choice = with_rule(choice, rank / 2, rank % 2, targets[k]);
+        rest = (rest >> zeros) / 2;
         k += 1;
     }
     choice
 }
 
-// Entries first + 2r and first + 2r + 1 are where request r leads, accepted and rejected. The other entries stay.
+// Entries 2r and 2r + 1 are where request r leads, accepted and rejected.
 pub fn fill_requests(
-    lets: &[u64],
+    sets: &[u64],
     enabled: u64,
-    levels: &[usize],
-    decisions: &[usize],
+    ranks: &[usize],
     targets: &[usize],
-    first: usize,
-    requests: usize,
     row: &mut [u64],
 )
-    requires { ⌜ (requests ≤ length (now lets)) × Listed enabled (now levels) (now decisions) (now targets) × (first + 2 * requests ≤ length (now row)) ⌝ }
-    ensures { λ _. ⌜ Filled 0 first (first + 2 * requests) (chosenFor (now (lets .entry)) enabled (now (levels .entry)) (now (decisions .entry)) (now (targets .entry)) first) (now (row .entry)) (now (row .exit)) ⌝ }
+    requires { ⌜ Listed enabled (now ranks) (now targets) × (2 * length (now sets) ≤ length (now row)) ⌝ }
+    ensures { λ _. ⌜ Tabled (2 * length (now (sets .entry))) (chosenFor (now (sets .entry)) enabled (now (ranks .entry)) (now (targets .entry))) (now (row .exit)) ⌝ }
 {
     let mut r = 0;
-    while r < requests {
-        let choice = choose(lets[r] & enabled, levels, decisions, targets);
-        let code = first + 2 * r;
-        row[code] = choice.accepted.set;
-        row[code + 1] = choice.rejected.set;
+    while r < sets.len() {
+        let choice = choose(sets[r] & enabled, ranks, targets);
+        row[2 * r] = choice.accepted.set;
+        row[2 * r + 1] = choice.rejected.set;
         r += 1;
     }
 }

@@ -16,7 +16,7 @@ use Rattle.definitions.specs.Bytes.{byte}
 use Rattle.definitions.specs.Book.{concat, bookBytes}
 use Rattle.definitions.specs.Rows.{rowsIn, lookedUp, laid, TableIn}
 use Rattle.join.specs.Numbers.{numberedRow, numberedRows, bookHeader, StatesBelow}
-use Rattle.join.proofs.Numbers.{Joined}
+use Rattle.join.proofs.Numbers.{JoinedRows}
 use Rattle.definitions.proofs.Written.{length-written, written-next}
 use Rattle.definitions.proofs.BookBytes.{length-of-bytes}
 use Rattle.definitions.proofs.RowsWritten.{laid-none, laid-turn, laid-after}
@@ -80,7 +80,7 @@ module _ (frame : List ℕ) (six : length frame ≡ 6) where
   header-length n = omega (arith, length-append frame (n ∷ []))
 
   -- a header, and then the rows
-  module _ {raw : List ℕ} {n w : ℕ} {numbers order : List ℕ} {k : ℕ} (j : Joined raw n w numbers order k) where
+  module _ {raw : List ℕ} {n w : ℕ} {numbers order : List ℕ} {k : ℕ} (j : JoinedRows raw n w numbers order k) where
     abbrev rows : List (List ℕ)
     rows = numberedRows raw w numbers order
 

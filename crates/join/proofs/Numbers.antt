@@ -28,7 +28,7 @@ use Rattle.definitions.proofs.TableBytes.{rows-count, bytes-are-table, cons-at,
 
 -- ---- state by state
 -- the states below s have their numbers, and the first ones among them stand in the order
-pub record Numbering (classes numbers order : List ℕ) (k s : ℕ) : Type 0 where
+pub record NumberedBelow (classes numbers order : List ℕ) (k s : ℕ) : Type 0 where
   pub some : 1 ≤ s
   pub inside : s ≤ length classes
   pub long : length numbers ≡ length classes
@@ -38,7 +38,7 @@ pub record Numbering (classes numbers order : List ℕ) (k s : ℕ) : Type 0 whe
   pub rest : (x : ℕ) → s ≤ x → byte numbers x ≡ byte classes x
 
 -- the states in the order are numbered, and their rows are those of the smallest table
-pub record Joined (raw : List ℕ) (n w : ℕ) (numbers order : List ℕ) (k : ℕ) : Type 0 where
+pub record JoinedRows (raw : List ℕ) (n w : ℕ) (numbers order : List ℕ) (k : ℕ) : Type 0 where
   pub table : TableIn raw (length numbers - 1) w
   pub states : StatesBelow order (length numbers)
   pub size : length order ≡ k
@@ -59,7 +59,7 @@ module _ {classes : List ℕ} (named : NamesFirst classes) where
   abbrev class : ℕ → ℕ
   class = byte classes
 
-  pub numbering-begun : (order : List ℕ) → Numbering classes classes order 0 1
+  pub numbering-begun : (order : List ℕ) → NumberedBelow classes classes order 0 1
   numbering-begun order = record {
     some = omega arith;
     inside = named .some;
@@ -73,7 +73,7 @@ module _ {classes : List ℕ} (named : NamesFirst classes) where
       first : (x : ℕ) → x ≡ 0 → byte classes x ≡ classNumber class x
       first x e = let zero : class 0 ≡ 0 = omega (arith, named .low 0 (named .some)) in rw (e, zero)
 
-  module _ {numbers order : List ℕ} {count s : ℕ} (now : Numbering classes numbers order count s) where
+  module _ {numbers order : List ℕ} {count s : ℕ} (now : NumberedBelow classes numbers order count s) where
     pub numbering-count : count < s
     numbering-count = omega (arith, now .count, rank-low class (s - 1), now .some)
 
@@ -110,7 +110,7 @@ module _ {classes : List ℕ} (named : NamesFirst classes) where
 
       pub numbering-turn : {r : ℕ} {numbers′ order′ : List ℕ} → r ≡ cond (eqb (byte numbers s) s) (count + 1) count
           → numbers′ ≡ set numbers s (cond (eqb (byte numbers s) s) (count + 1) (byte numbers (byte numbers s)))
-          → order′ ≡ cond (eqb (byte numbers s) s) (set order count s) order → Numbering classes numbers′ order′ r (s + 1)
+          → order′ ≡ cond (eqb (byte numbers s) s) (set order count s) order → NumberedBelow classes numbers′ order′ r (s + 1)
       numbering-turn er en eo =
           let are = firsts-are (ℕ-discrete (class s) s) in
           let here : s + 1 - 1 ≡ s = omega arith in
@@ -195,9 +195,9 @@ module _ {raw : List ℕ} {n w : ℕ} {array : List ℕ} (ok : TableIn raw n w) 
           ∙ sym (getD-map-within (rankedRow class-of rows) (firsts class-of (length rows)) i 0 [] l)
 
   -- what numbering leaves
-  pub joined : {numbers : List ℕ} (order : List ℕ) {k : ℕ} → Ordered (tabled w rows) n → (k ≡ length (firstStates array)) × (take k order ≡ firstStates array)
-      → numbers ≡ classNumbers array → Joined raw n w numbers (take k order) k
-  joined order inOrder (count-is, states) numbers-are =
+  pub joined-rows : {numbers : List ℕ} (order : List ℕ) {k : ℕ} → Ordered (tabled w rows) n → (k ≡ length (firstStates array)) × (take k order ≡ firstStates array)
+      → numbers ≡ classNumbers array → JoinedRows raw n w numbers (take k order) k
+  joined-rows order inOrder (count-is, states) numbers-are =
       let size-numbers = length-list-below (classNumber (byte array)) (length array) in
       let left : length (classNumbers array) - 1 ≡ n = omega arith in
       rw (states, numbers-are) record {

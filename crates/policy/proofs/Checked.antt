@@ -43,4 +43,5 @@ passed p e =
           (le-leb (requests p) 64 (file .requestsMost));
       fewRequests = file .requestsMost;
       fewValuations = file .valuationsMost;
+      twoDecisions = file .decisionMost;
     }

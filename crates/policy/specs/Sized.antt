@@ -2,9 +2,9 @@
 use mathlib.Core.Path.{_≡_}
 use mathlib.Core.Bool.{true}
 use mathlib.Core.List.{List}
-use Prim.Native.Nat.{ℕ, _≤_}
+use Prim.Native.Nat.{ℕ, _<_, _≤_}
 use lib.ListN.{length}
-use Rattle.definitions.specs.Policy.{events, fields, variables, rules, requests, ruleSize, ruleTable, rule, exactLength}
+use Rattle.definitions.specs.Policy.{events, fields, variables, rules, requests, ruleSize, ruleTable, rule, decision, exactLength}
 use Rattle.definitions.specs.Valuation.{valuations}
 use Rattle.definitions.specs.Refusal.{countsHold}
 
@@ -32,9 +32,10 @@ pub record ChangesOf (p t : List ℕ) : Type 0 where
   pub sized : Sized p
   pub changes : t ≡ rule p (rules p)
 
--- no row up to 10 turns the file down
+-- the file is accepted by rows 2 to 10
 pub record Passed (p : List ℕ) : Type 0 where
   pub sized : Sized p
   pub counts : countsHold p ≡ true
   pub fewRequests : requests p ≤ 64
   pub fewValuations : valuations p ≤ 64
+  pub twoDecisions : (k : ℕ) → k < rules p → decision p (rule p k) ≤ 1

@@ -2,6 +2,7 @@
 // policycheck.
 pub mod counts;
 pub mod header;
+pub mod part;
 pub mod record;
 pub mod shape;
 pub mod valuation;

@@ -1,10 +1,11 @@
 // The variables' bounds, and the number of valuations.
 ghost use mathlib.Core.Path.{_≡_};
-ghost use Prim.Native.Nat.{_<_, _≤_, max};
+ghost use Prim.Native.Nat.{_<_, max};
 ghost use Rattle.definitions.specs.Policy.{variables};
-ghost use Rattle.definitions.specs.Valuation.{tested, bound, worth, valuations};
+ghost use Rattle.definitions.specs.Valuation.{tested, bound, valuations};
 ghost use Rattle.policy.specs.Sized.{TableOf, RuleOf};
 use super::header;
+use super::part;
 use super::record;
 
 fn greater(a: usize, b: usize) -> usize
@@ -26,23 +27,22 @@ pub fn bound(policy: &[u8], table: &[u8], j: usize) -> usize
     requires { ⌜ TableOf (now policy) (now table) × (j < variables (now policy)) ⌝ }
     ensures { λ r. ⌜ (r ≡ bound (now (policy .entry)) j) × (r < 256) ⌝ }
 {
-    let size = header::rule_size(policy);
     let n = header::rules(policy);
     let mut most = 0;
     let mut k = 0;
     while k < n {
-        let at = k * size;
-        most = greater(most, tested(policy, &table[at..], j));
+        most = greater(most, tested(policy, part::rule(policy, table, k), j));
         k += 1;
     }
     most
 }
 
-// How many valuations the first n variables have: what one of variable n is worth in a valuation's number.
-pub fn worth(policy: &[u8], table: &[u8], n: usize) -> usize
-    requires { ⌜ TableOf (now policy) (now table) × (n ≤ variables (now policy)) ⌝ }
-    ensures { λ r. ⌜ r ≡ worth (now (policy .entry)) n ⌝ }
+// How many valuations there are: the product of the numbers of values of the variables.
+pub fn valuations(policy: &[u8], table: &[u8]) -> usize
+    requires { ⌜ TableOf (now policy) (now table) ⌝ }
+    ensures { λ r. ⌜ r ≡ valuations (now (policy .entry)) ⌝ }
 {
+    let n = header::variables(policy);
     let mut product = 1;
     let mut j = 0;
     while j < n {
@@ -50,11 +50,4 @@ pub fn worth(policy: &[u8], table: &[u8], n: usize) -> usize
         j += 1;
     }
     product
-}
-
-pub fn valuations(policy: &[u8], table: &[u8]) -> usize
-    requires { ⌜ TableOf (now policy) (now table) ⌝ }
-    ensures { λ r. ⌜ r ≡ valuations (now (policy .entry)) ⌝ }
-{
-    worth(policy, table, header::variables(policy))
 }

@@ -13,22 +13,18 @@ fn counts_in_range(policy: &[u8]) -> bool
     ensures { λ r. ⌜ r ≡ allBelow (fields (now (policy .entry))) (countInRange (now (policy .entry))) ⌝ }
 {
     let n = header::fields(policy);
+    let mut pass = true;
     let mut f = 0;
     while f < n {
-        if !in_range(1, header::count(policy, f), 16) {
-            return false;
-        }
+        pass = pass & in_range(1, header::count(policy, f), 16);
         f += 1;
     }
-    true
+    pass
 }
 
 pub fn counts_hold(policy: &[u8]) -> bool
     requires { ⌜ Sized (now policy) ⌝ }
     ensures { λ r. ⌜ r ≡ countsHold (now (policy .entry)) ⌝ }
 {
-    if !counts_in_range(policy) {
-        return false;
-    }
-    requests(policy) <= 64
+    counts_in_range(policy) & (requests(policy) <= 64)
 }

@@ -12,13 +12,7 @@ pub fn mark_holds(policy: &[u8]) -> bool
     requires { ⌜ 9 ≤ length (now policy) ⌝ }
     ensures { λ r. ⌜ r ≡ hasMark 0x50 0x4F 0x4C (now (policy .entry)) ⌝ }
 {
-    if policy[0] != 0x50 {
-        return false;
-    }
-    if policy[1] != 0x4F {
-        return false;
-    }
-    policy[2] == 0x4C
+    (policy[0] == 0x50) & (policy[1] == 0x4F) & (policy[2] == 0x4C)
 }
 
 pub fn version_holds(policy: &[u8]) -> bool
@@ -31,26 +25,17 @@ pub fn version_holds(policy: &[u8]) -> bool
 pub fn in_range(low: usize, x: usize, high: usize) -> bool
     ensures { λ r. ⌜ r ≡ within low x high ⌝ }
 {
-    if x < low {
-        return false;
-    }
-    x <= high
+    (low <= x) & (x <= high)
 }
 
 pub fn ranges_hold(policy: &[u8]) -> bool
     requires { ⌜ 9 ≤ length (now policy) ⌝ }
     ensures { λ r. ⌜ r ≡ rangesHold (now (policy .entry)) ⌝ }
 {
-    if 8 < header::events(policy) {
-        return false;
-    }
-    if !in_range(1, header::fields(policy), 4) {
-        return false;
-    }
-    if 4 < header::variables(policy) {
-        return false;
-    }
-    in_range(1, header::rules(policy), 32)
+    (header::events(policy) <= 8)
+        & in_range(1, header::fields(policy), 4)
+        & (header::variables(policy) <= 4)
+        & in_range(1, header::rules(policy), 32)
 }
 
 pub fn length_holds(policy: &[u8]) -> bool

@@ -8,7 +8,7 @@ ghost use mathlib.Core.Path.{_≡_};
 ghost use Rattle.definitions.specs.Answer.{refusalBy};
 ghost use Rattle.definitions.specs.Refusal.{contentChecks, fileRefusal, valuationsHold};
 ghost use Rattle.policy.specs.Sized.{Sized, TableOf};
-use policy::header;
+use policy::part;
 use policy::valuation;
 
 // The number of the lowest row from 2 to 10 that refuses the file; 0 if none does.
@@ -41,8 +41,7 @@ fn contents_refusal(policy: &[u8]) -> usize
     if !counts::counts_hold(policy) {
         return 7;
     }
-    let after_counts = 9 + header::fields(policy);
-    let table = &policy[after_counts..];
+    let table = part::rule_table(policy);
     if !masks::masks_hold(policy, table) {
         return 8;
     }

@@ -6,6 +6,7 @@ ghost use Rattle.definitions.specs.Policy.{fields};
 ghost use Rattle.definitions.specs.Refusal.{countsHold, maskHolds, ruleMasksHold, masksHold};
 ghost use Rattle.policy.specs.Sized.{TableOf, RuleOf};
 use policy::header;
+use policy::part;
 use policy::record;
 
 fn mask_holds(policy: &[u8], rule: &[u8], f: usize) -> bool
@@ -13,10 +14,7 @@ fn mask_holds(policy: &[u8], rule: &[u8], f: usize) -> bool
     ensures { λ r. ⌜ r ≡ maskHolds (now (policy .entry)) (now (rule .entry)) f ⌝ }
 {
     let mask = record::mask(rule, f);
-    if mask < 1 {
-        return false;
-    }
-    mask < 1usize << header::count(policy, f)
+    (1 <= mask) & (mask < 1usize << header::count(policy, f))
 }
 
 fn rule_masks_hold(policy: &[u8], rule: &[u8]) -> bool
@@ -24,29 +22,25 @@ fn rule_masks_hold(policy: &[u8], rule: &[u8]) -> bool
     ensures { λ r. ⌜ r ≡ ruleMasksHold (now (policy .entry)) (now (rule .entry)) ⌝ }
 {
     let n = header::fields(policy);
+    let mut pass = true;
     let mut f = 0;
     while f < n {
-        if !mask_holds(policy, rule, f) {
-            return false;
-        }
+        pass = pass & mask_holds(policy, rule, f);
         f += 1;
     }
-    true
+    pass
 }
 
 pub fn masks_hold(policy: &[u8], table: &[u8]) -> bool
     requires { ⌜ TableOf (now policy) (now table) × (countsHold (now policy) ≡ true) ⌝ }
     ensures { λ r. ⌜ r ≡ masksHold (now (policy .entry)) ⌝ }
 {
-    let size = header::rule_size(policy);
     let n = header::rules(policy);
+    let mut pass = true;
     let mut k = 0;
     while k < n {
-        let at = k * size;
-        if !rule_masks_hold(policy, &table[at..]) {
-            return false;
-        }
+        pass = pass & rule_masks_hold(policy, part::rule(policy, table, k));
         k += 1;
     }
-    true
+    pass
 }

@@ -17,7 +17,7 @@ use Rattle.refine.proofs.RoundSequence.{ownClasses, rounds-begun, round
 use Rattle.refine.proofs.KeptClasses.{kept-begun, kept-turn}
 
 -- where the loop over the rounds is: `old` is the array of classes where it begins
-pub record Refining (raw : List ℕ) (w : ℕ) (leads old classes next : List ℕ) (moved : ℕ) : Type 0 where
+pub record AfterRounds (raw : List ℕ) (w : ℕ) (leads old classes next : List ℕ) (moved : ℕ) : Type 0 where
   pub rounds : InRounds raw w classes
   pub words : RowWords raw w (length classes - 1) leads
   pub kept : KeptClasses raw w leads moved classes
@@ -31,18 +31,18 @@ roundsLeft classes moved = (length classes - ownClasses classes) + cond (eqb mov
 
 pub refining-begun : {raw : List ℕ} {w : ℕ} {leads classes : List ℕ} (next : List ℕ) → TableIn raw (length classes - 1) w → length classes ≤ 128
     → classes ≡ oneClass (length classes) → 128 ≤ length leads → RowWords raw w (length classes - 1) leads → length next ≡ length classes
-    → Refining raw w leads classes classes next allStates
+    → AfterRounds raw w leads classes classes next allStates
 refining-begun {leads = leads} next ok few one fits words room =
     let rounds = rounds-begun ok few one in
     record { rounds = rounds; words = words; kept = kept-begun leads rounds (omega arith) words; long = refl; room = room; done = λ z. absurd (omega arith) }
 
 -- one round more
-module _ {raw : List ℕ} {w : ℕ} {leads old classes next next′ : List ℕ} {moved : ℕ} (now : Refining raw w leads old classes next moved)
+module _ {raw : List ℕ} {w : ℕ} {leads old classes next next′ : List ℕ} {moved : ℕ} (now : AfterRounds raw w leads old classes next moved)
     (e : next′ ≡ nextRound raw w classes) where
   same : length next′ ≡ length classes
   same = ap length e ∙ next-length (now .rounds)
 
-  pub refining-turn : {classes′ : List ℕ} {moved′ : ℕ} → classes′ ≡ next′ → moved′ ≡ movedStates classes (nextRound raw w classes) → Refining raw w leads old classes′ next′ moved′
+  pub refining-turn : {classes′ : List ℕ} {moved′ : ℕ} → classes′ ≡ next′ → moved′ ≡ movedStates classes (nextRound raw w classes) → AfterRounds raw w leads old classes′ next′ moved′
   refining-turn {classes′} {moved′} k m = rw (k, m, ← e) record {
     rounds = round-more (now .rounds) e;
     words = rw same (now .words);

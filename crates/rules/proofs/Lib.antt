@@ -1,4 +1,4 @@
-pub mod Tables
+pub mod Arrays
 pub mod RuleSets
 pub mod Values
-pub mod Valuations
+pub mod Changes

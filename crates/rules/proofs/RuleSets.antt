@@ -18,7 +18,7 @@ use Rattle.automaton.proofs.Congruence.{fold-below-same}
 use Rattle.definitions.specs.Bytes.{bit}
 use Rattle.definitions.specs.Situation.{emptySet, insert}
 use Rattle.definitions.proofs.Sets.{two-digit-cases, bit-empty, bit-insert, state-has}
-use Rattle.rules.specs.Rules.{withPassing, passing}
+use Rattle.rules.specs.RuleSets.{withPassing, passing}
 
 -- ---- what two sets share
 both-of-two : (x y : ℕ) → x < 2 → y < 2 → eqb (min x y) 1 ≡ (eqb x 1 && eqb y 1)

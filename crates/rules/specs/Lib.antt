@@ -1,3 +1,3 @@
-pub mod Tables
-pub mod Rules
-pub mod Valuations
+pub mod Arrays
+pub mod RuleSets
+pub mod Changes

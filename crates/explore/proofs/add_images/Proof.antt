@@ -1,5 +1,5 @@
 -- `add_images` meets its contract: the images are put in, or nothing changes.
-use Rattle.explore.proofs.Rows.{images-in, images-out}
+use Rattle.explore.proofs.SetRows.{images-in, images-out}
 use Rattle.automaton.proofs.Loops.{part-is-drop}
 use mathlib.Core.Path.{sym, _∙_}
 use borrow.Author.Needs.{needs}

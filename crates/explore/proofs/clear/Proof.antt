@@ -1,6 +1,6 @@
 -- `clear` meets its contract: the sets passed so far are empty.
 use Rattle.automaton.proofs.Filling.{Filled, filled-begun, filled-turn, filled-done}
-use Rattle.explore.specs.Images.{noSet}
+use Rattle.explore.specs.SetImages.{noSet}
 use lib.ListN.{length, length-set}
 use native.Mathlib.Omega.{arith}
 use Prim.Native.Nat.{_-_}

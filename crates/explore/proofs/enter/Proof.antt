@@ -1,5 +1,5 @@
 -- `enter` meets its contract: the state is among those found, or goes after them.
-use Rattle.explore.proofs.Noting.{note-found, note-new}
+use Rattle.explore.proofs.StateEntry.{note-found, note-new}
 use native.Mathlib.Omega.{arith}
 use borrow.Author.Needs.{needs}
 use Rattle.explore.proofs.enter.Statement.{statement}

@@ -18,7 +18,7 @@ slice-aggregate-explore-in-2 c = search needs
 explore-in-requires : tie.Need-explore-in-requires
 explore-in-requires c κs =
     let p = c .before .before .before .before .before .before .before .pre in
-    ((p .0 .0, p .0 .2, length-take-le (c .before .before .before .before .before .before .before .args .w) _ (p .0 .1)), (p .1 .0, p .1 .1, omega arith))
+    ((p .0 .0, p .0 .2, length-take-le (c .before .before .before .before .before .before .before .args .w) _ (p .0 .1), p .0 .3), (p .1 .0, p .1 .1, omega arith))
 
 same-length : tie.Need-same-length
 same-length c = search needs

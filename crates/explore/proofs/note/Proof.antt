@@ -1,5 +1,5 @@
--- `note` meets its contract: each way out is a case of Noting.
-use Rattle.explore.proofs.Noting.{note-none, note-hint, noted-low}
+-- `note` meets its contract: the set is empty, the hint is right, or the state is entered.
+use Rattle.explore.proofs.StateEntry.{note-none, note-hint, noted-low}
 use borrow.Author.Tests.{eqb-true, eqb-false}
 use native.Mathlib.Omega.{arith}
 use Prim.Native.Nat.{_<_}

@@ -4,7 +4,7 @@ use Prim.Native.Nat.{ℕ, _≤_, _<_, _-_}
 use borrow.Author.Count.{below-more}
 use borrow.Author.Tests.{eqb-true, eqb-false}
 use lib.ListN.{getD}
-use Rattle.explore.proofs.Places.{place-here, place-nowhere}
+use Rattle.explore.proofs.StatePlaces.{place-here, place-nowhere}
 use borrow.Author.Needs.{needs}
 use Rattle.explore.proofs.place.Statement.{statement}
 use Rattle.explore.proofs.place.Tie as tie

@@ -1,6 +1,6 @@
 -- `step_all` meets its contract: the row has the images of the valuations passed so far.
-use Rattle.explore.proofs.Rows.{images-more}
-use Rattle.explore.specs.Images.{emptySets, imagesOfSet, imageOfSetIn, withImages}
+use Rattle.explore.proofs.SetRows.{images-more}
+use Rattle.explore.specs.SetImages.{emptySets, imagesOfSet, imageOfSetIn, withImages}
 use Rattle.automaton.proofs.Counting.{length-list-below}
 use Rattle.automaton.proofs.Loops.{row-within}
 use lib.ListN.{length}

@@ -1,6 +1,6 @@
 -- `unite` meets its contract: the sets passed so far are united.
 use Rattle.automaton.proofs.Filling.{Filled, filled-begun, filled-next, filled-turn, filled-done}
-use Rattle.explore.specs.Images.{unionAt}
+use Rattle.explore.specs.SetImages.{unionAt}
 use lib.ListN.{length, getD, length-set}
 use Rattle.definitions.specs.Situation.{union}
 use native.Mathlib.Omega.{arith}

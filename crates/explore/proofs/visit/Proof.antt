@@ -1,7 +1,7 @@
 -- `visit` meets its contract: after c turns the codes below c have been tried.
-use Rattle.explore.proofs.Visiting.{Trying, trying-begun, trying-room, trying-once, trying-row, tried-low, trying-turn, trying-over, trying-done}
-use Rattle.explore.proofs.Rows.{row-step}
-use Rattle.explore.specs.Images.{imageOfSetIn, imagesOfSet, imagesMachine}
+use Rattle.explore.proofs.Visits.{CodesTried, tried-begun, tried-room, tried-once, tried-row, tried-low, tried-turn, tried-over, tried-done}
+use Rattle.explore.proofs.SetRows.{row-step}
+use Rattle.explore.specs.SetImages.{imageOfSetIn, imagesOfSet, imagesMachine}
 use Rattle.automaton.specs.Machine.{step}
 use Rattle.automaton.proofs.Counting.{length-list-below}
 use lib.ListN.{length, getD, take, length-set}
@@ -14,7 +14,7 @@ use Rattle.explore.proofs.visit.Tie as tie
 
 -- the situation was handed on and the loop has it no more: the invariant speaks of every state that leads to the sets in `next`
 abbrev Inv-loop : tie.InvT-loop
-Inv-loop images valuations w found₀ n row₀ next hints₀ k₀ c₀ found row hints k c = ((s : ℕ) → 0 < s → next ≡ imagesOfSet images valuations w s → Trying (imagesMachine images valuations w) s (take n found₀) found₀ row₀ found row k c) × (length hints ≡ length hints₀)
+Inv-loop images valuations w found₀ n row₀ next hints₀ k₀ c₀ found row hints k c = ((start s : ℕ) → 0 < s → next ≡ imagesOfSet images valuations w s → CodesTried (imagesMachine images valuations w start) s (take n found₀) found₀ row₀ found row k c) × (length hints ≡ length hints₀)
 
 abbrev μ-loop : tie.MeasureT-loop
 μ-loop images valuations w found₀ n row₀ next hints₀ k₀ c₀ found row hints k c = w - c
@@ -26,25 +26,25 @@ long c =
     ap length (c .before .before .before .step-all .ensures) ∙ length-list-below (imageOfSetIn (a .images .now) (a .valuations) (a .w) (a .situation .set)) (a .w)
 
 -- what has been tried from the situation
-trying : (c : tie.At-loop Inv-loop μ-loop)
+tried : (c : tie.At-loop Inv-loop μ-loop) (start : ℕ)
     → let a = c .before .before .before .before .before .before .before .before .before .before .args in
-    Trying (imagesMachine (a .images .now) (a .valuations) (a .w)) (a .situation .set) (take (a .n) (a .found .now)) (a .found .now) (a .row .now) (c .loop .found) (c .loop .row) (c .loop .k) (c .loop .c)
-trying c =
+    CodesTried (imagesMachine (a .images .now) (a .valuations) (a .w) start) (a .situation .set) (take (a .n) (a .found .now)) (a .found .now) (a .row .now) (c .loop .found) (c .loop .row) (c .loop .k) (c .loop .c)
+tried c start =
     let p = c .before .before .before .before .before .before .before .before .before .before in
-    c .loop .inv .0 (p .args .situation .set) (p .pre .1 .0 .3) (c .before .before .before .step-all .ensures)
+    c .loop .inv .0 start (p .args .situation .set) (p .pre .1 .0 .3) (c .before .before .before .step-all .ensures)
 
 -- where the code leads
-led : (c : tie.In-loop Inv-loop μ-loop)
+led : (c : tie.In-loop Inv-loop μ-loop) (start : ℕ)
     → let a = c .before .before .before .before .before .before .before .before .before .before .before .args in
-    getD (c .before .before .before .before .step-all .last .1 .1 .1 .1 .0) (c .before .loop .c) 0 ≡ step (imagesMachine (a .images .now) (a .valuations) (a .w)) (a .situation .set) (c .before .loop .c)
-led c =
+    getD (c .before .before .before .before .step-all .last .1 .1 .1 .1 .0) (c .before .loop .c) 0 ≡ step (imagesMachine (a .images .now) (a .valuations) (a .w) start) (a .situation .set) (c .before .loop .c)
+led c start =
     let p = c .before .before .before .before .before .before .before .before .before .before .before in
     let a = p .args in
-    row-step (a .images .now) (a .w) (a .situation .set) (a .valuations) (c .before .loop .c) (p .pre .1 .0 .3) (c .before .before .before .before .step-all .ensures) (c .loop-test .taken)
+    row-step (a .images .now) (a .w) (a .situation .set) start (a .valuations) (c .before .loop .c) (p .pre .1 .0 .3) (c .before .before .before .before .step-all .ensures) (c .loop-test .taken)
 
 -- its number is a byte
 low : (c : tie.After-note Inv-loop μ-loop) → c .note .result ≤ 128
-low c = tried-low (trying (c .before .before .before .before .before)) (c .before .before .before .before .loop-test .taken) (led (c .before .before .before .before)) (c .note .ensures .0) (c .note .ensures .1)
+low c = tried-low (tried (c .before .before .before .before .before) 0) (c .before .before .before .before .loop-test .taken) (led (c .before .before .before .before) 0) (c .note .ensures .0) (c .note .ensures .1)
 
 step-all-requires : tie.Need-step-all-requires Inv-loop μ-loop
 step-all-requires c κs = search needs
@@ -52,7 +52,7 @@ step-all-requires c κs = search needs
 loop-holds : tie.Need-loop-holds Inv-loop μ-loop
 loop-holds c =
     let p = c .before .before .before .before .before .before .before .before .before in
-    (λ s _ _. trying-begun _ s (p .args .n) (p .args .found .now) (p .args .row .now) (p .pre .1 .0 .1) (p .pre .1 .0 .2) (p .pre .1 .0 .0), refl)
+    (λ start s _ _. tried-begun _ s (p .args .n) (p .args .found .now) (p .args .row .now) (p .pre .1 .0 .1) (p .pre .1 .0 .2) (p .pre .1 .0 .0), refl)
 
 mul-t19 : tie.Need-mul-t19 Inv-loop μ-loop
 mul-t19 c = search needs
@@ -64,9 +64,9 @@ slice-read-t21 c =
 
 note-requires : tie.Need-note-requires Inv-loop μ-loop
 note-requires c κs =
-    let t = trying (c .before .before .before .before) in
+    let t = tried (c .before .before .before .before) 0 in
     let p = c .before .before .before .before .before .before .before .before .before .before .before .before .before .before .pre .1 .1 in
-    (omega (arith, trying-room t, t .room, t .few), t .few, omega (arith, c .before .before .before .before .loop .inv .1, p .0), trying-once t (p .1))
+    (omega (arith, tried-room t, t .room, t .few), t .few, omega (arith, c .before .before .before .before .loop .inv .1, p .0), tried-once t (p .1))
 
 cast-row : tie.Need-cast-row Inv-loop μ-loop
 cast-row c =
@@ -74,16 +74,16 @@ cast-row c =
     omega arith
 
 slice-write-row : tie.Need-slice-write-row Inv-loop μ-loop
-slice-write-row c = omega (arith, trying-row (trying (c .before .before .before .before .before .before .before .before .before)), trying (c .before .before .before .before .before .before .before .before .before) .long)
+slice-write-row c = omega (arith, tried-row (tried (c .before .before .before .before .before .before .before .before .before) 0), tried (c .before .before .before .before .before .before .before .before .before) 0 .long)
 
 greater-requires : tie.Need-greater-requires Inv-loop μ-loop
 greater-requires c κs = search needs
 
 same-length : tie.Need-same-length Inv-loop μ-loop
-same-length c = c .before .before .before .before .before .before .note .kept .0 ∙ trying-room (trying (c .before .before .before .before .before .before .before .before .before .before .before))
+same-length c = c .before .before .before .before .before .before .note .kept .0 ∙ tried-room (tried (c .before .before .before .before .before .before .before .before .before .before .before) 0)
 
 same-length-2 : tie.Need-same-length-2 Inv-loop μ-loop
-same-length-2 c = simp length-set (trying-row (trying (c .before .before .before .before .before .before .before .before .before .before .before)))
+same-length-2 c = simp length-set (tried-row (tried (c .before .before .before .before .before .before .before .before .before .before .before) 0))
 
 same-length-3 : tie.Need-same-length-3 Inv-loop μ-loop
 same-length-3 c = long (c .before .before .before .before .before .before .before .before .before .before .before) ∙ sym (c .before .before .before .before .before .before .before .before .before .before .before .before .before .before .before .before .before .before .before .before .before .pre .0 .2)
@@ -92,10 +92,10 @@ same-length-4 : tie.Need-same-length-4 Inv-loop μ-loop
 same-length-4 c = c .before .before .before .before .before .before .note .kept .1 .1 .1 .0 ∙ c .before .before .before .before .before .before .before .before .before .before .before .loop .inv .1
 
 returns : tie.Need-returns Inv-loop μ-loop
-returns c =
+returns c start =
     let p = c .before .before .before .before .before .before in
     let e = c .before .greater .ensures in
-    rw e (trying-over (trying (c .before .before .before .before .before .before .before .before .before .before .before)) (c .before .before .before .before .before .before .before .before .before .before .loop-test .taken) (led (c .before .before .before .before .before .before .before .before .before .before)) (p .note .ensures .0) (p .note .ensures .1) (omega arith))
+    rw e (tried-over (tried (c .before .before .before .before .before .before .before .before .before .before .before) start) (c .before .before .before .before .before .before .before .before .before .before .loop-test .taken) (led (c .before .before .before .before .before .before .before .before .before .before) start) (p .note .ensures .0) (p .note .ensures .1) (omega arith))
 
 add-c : tie.Need-add-c Inv-loop μ-loop
 add-c c = search needs
@@ -110,13 +110,13 @@ loop-again c =
     let t = c .before .before .before .before .before .before .before .before .before .before .loop-test .taken in
     let n = c .before .before .before .before .before .before .note in
     let e = c .before .greater .ensures in
-    (λ s state is. rw e (trying-turn (i .0 s state is) t (row-step (a .images .now) (a .w) s (a .valuations) _ state is t) (n .ensures .0) (n .ensures .1) (omega arith)), n .kept .1 .1 .1 .0 ∙ i .1)
+    (λ start s state is. rw e (tried-turn (i .0 start s state is) t (row-step (a .images .now) (a .w) s start (a .valuations) _ state is t) (n .ensures .0) (n .ensures .1) (omega arith)), n .kept .1 .1 .1 .0 ∙ i .1)
 
 same-length-5 : tie.Need-same-length-5 Inv-loop μ-loop
-same-length-5 c = trying-room (trying (c .before))
+same-length-5 c = tried-room (tried (c .before) 0)
 
 same-length-6 : tie.Need-same-length-6 Inv-loop μ-loop
-same-length-6 c = trying-row (trying (c .before))
+same-length-6 c = tried-row (tried (c .before) 0)
 
 same-length-7 : tie.Need-same-length-7 Inv-loop μ-loop
 same-length-7 c = long (c .before) ∙ sym (c .before .before .before .before .before .before .before .before .before .before .before .pre .0 .2)
@@ -125,7 +125,7 @@ same-length-8 : tie.Need-same-length-8 Inv-loop μ-loop
 same-length-8 c = c .before .loop .inv .1
 
 returns-2 : tie.Need-returns-2 Inv-loop μ-loop
-returns-2 c = trying-done (trying (c .before)) (c .loop-test .left)
+returns-2 c start = tried-done (tried (c .before) start) (c .loop-test .left)
 
 pub visit-spec : {M : Type 1} → statement M
 visit-spec =

@@ -1,23 +1,34 @@
 -- `images::fill_events` meets its contract. The loop's invariant: the first e entries are filled.
 use mathlib.Core.Path.{_≡_, ap, _∙_}
-use Prim.Native.Nat.{ℕ, _≤_, _-_}
+use Prim.Native.Nat.{ℕ, _≤_, _<_, _-_}
 use native.Mathlib.Omega.{arith}
+use lib.ListN.{length}
 use borrow.Author.Needs.{needs}
+use Rattle.automaton.proofs.Filling.{Filled, filled-begun, filled-turn}
 use Rattle.automaton.proofs.Loops.{row-within}
 use Rattle.definitions.specs.Policy.{events}
 use Rattle.definitions.specs.Situation.{emptySet, insert}
-use Rattle.rules.specs.Tables.{Filled, entryOf}
+use Rattle.rules.specs.Arrays.{entryOf}
+use Rattle.rules.proofs.Arrays.{filled-tabled}
 use Rattle.images.specs.Images.{eventFrom}
-use Rattle.rules.proofs.Tables.{filled-more}
-use Rattle.images.proofs.Targets.{event-spread, event-target}
+use Rattle.images.proofs.Targets.{event-changes, event-target}
 use Rattle.images.proofs.fill_events.Statement.{statement}
 use Rattle.images.proofs.fill_events.Tie as tie
 
 abbrev Inv-loop : tie.InvT-loop
-Inv-loop policy changes bounds values row₀ n step e₀ row e = (e ≤ n) × Filled 0 0 e (eventFrom policy (entryOf values)) row₀ row
+Inv-loop policy bounds values row₀ changes n step e₀ row e = (e ≤ n) × Filled (eventFrom policy (entryOf values)) row₀ e row
 
 abbrev μ-loop : tie.MeasureT-loop
-μ-loop policy changes bounds values row₀ n step e₀ row e = n - e
+μ-loop policy bounds values row₀ changes n step e₀ row e = n - e
+
+room : (c : tie.In-loop Inv-loop μ-loop) → c .before .loop .e < length (c .before .before .before .before .before .before .before .before .before .before .args .row .now)
+room c = omega (arith, c .before .before .before .before .before .before .before .before .before .before .pre .3)
+
+rule-table-requires : tie.Need-rule-table-requires Inv-loop μ-loop
+rule-table-requires c κs = search needs
+
+changes-requires : tie.Need-changes-requires Inv-loop μ-loop
+changes-requires c κs = search needs
 
 events-requires : tie.Need-events-requires Inv-loop μ-loop
 events-requires c κs = search needs
@@ -26,21 +37,17 @@ variables-requires : tie.Need-variables-requires Inv-loop μ-loop
 variables-requires c κs = search needs
 
 loop-holds : tie.Need-loop-holds Inv-loop μ-loop
-loop-holds c = search needs
+loop-holds c = (search needs, filled-begun _ _)
 
-mul-first : tie.Need-mul-first Inv-loop μ-loop
-mul-first c =
-    let k = row-within (c .before .loop .e) 8 (c .before .before .variables .result) (omega arith) in omega arith
+mul-carried-out : tie.Need-mul-carried-out Inv-loop μ-loop
+mul-carried-out c = let k = row-within (c .before .loop .e) 8 (c .before .before .variables .result) (omega arith) in omega arith
 
 carried-out-requires : tie.Need-carried-out-requires Inv-loop μ-loop
 carried-out-requires c κs =
-    let start = c .before .before .before .before .before .before .before .before .before in
-    let variables = c .before .before .variables in (
-      start .pre .0,
-      start .pre .2,
-      start .pre .3,
-      event-spread (start .args .policy .now) (start .args .changes .now) (variables .result) (c .before .loop .e) (start .pre .1) (variables .ensures .0) (omega arith),
-    )
+    let start = c .before .before .before .before .before .before .before .before .before .before in
+    let variables = c .before .before .variables in
+    let changes = c .before .before .before .before .changes in
+    (start .pre .0, start .pre .1, start .pre .2, event-changes (start .args .policy .now) _ (variables .result) (c .before .loop .e) (changes .ensures) (variables .ensures .0) (omega arith))
 
 empty-requires : tie.Need-empty-requires Inv-loop μ-loop
 empty-requires c κs = search needs
@@ -62,24 +69,21 @@ loop-less c = search needs
 
 loop-again : tie.Need-loop-again Inv-loop μ-loop
 loop-again c =
-    let start = c .before .before .before .before .before .before .before .before .before .before .before .before in
+    let a = c .before .before .before .before .before .before .before .before .before .before .before .before .before .args in
     let variables = c .before .before .before .before .before .variables in
+    let changes = c .before .before .before .before .before .before .before .changes in
     let loop = c .before .before .before .before .loop in
-    let a = start .args in
-    let e = event-target (a .policy .now) (a .changes .now) (variables .result) (loop .e) (start .pre .1) (variables .ensures .0) (entryOf (a .values .now)) (c .before .before .carried-out .result) (c .before .before .carried-out .ensures .0) in (
+    let target = c .before .before .carried-out in
+    let e = event-target (a .policy .now) _ (variables .result) (loop .e) (changes .ensures) (variables .ensures .0) (entryOf (a .values .now)) (target .result) (target .ensures .0) in (
       omega arith,
-      filled-more 0 0 (loop .e) (eventFrom (a .policy .now) (entryOf (a .values .now))) (a .row .now) (loop .row) (c .with .result .set) (omega arith) (omega arith) (loop .inv .1)
-          (c .with .ensures ∙ ap (insert (c .before .before .carried-out .result)) (c .before .empty .ensures) ∙ ap (λ (u : ℕ). insert u emptySet) e),
+      filled-turn (loop .inv .1) (room (c .before .before .before)) (c .with .ensures ∙ ap (insert (target .result)) (c .before .empty .ensures) ∙ ap (λ (u : ℕ). insert u emptySet) e),
     )
 
 same-length : tie.Need-same-length Inv-loop μ-loop
 same-length c = search needs
 
 returns : tie.Need-returns Inv-loop μ-loop
-returns c =
-    let start = c .before .before .before .before .before .before .before .before .before in
-    let e : c .before .loop .e ≡ events (start .args .policy .now) = omega arith in
-    rw (← e) (c .before .loop .inv .1)
+returns c = filled-tabled (events (c .before .before .before .before .before .before .before .before .before .before .args .policy .now)) (c .before .loop .inv .1) (omega arith)
 
 pub fill-events-spec : {M : Type 1} → statement M
 fill-events-spec =
@@ -87,10 +91,12 @@ fill-events-spec =
     (tie.spec
     Inv-loop
     μ-loop
+    rule-table-requires
+    changes-requires
     events-requires
     variables-requires
     loop-holds
-    mul-first
+    mul-carried-out
     carried-out-requires
     empty-requires
     with-requires

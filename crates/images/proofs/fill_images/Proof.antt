@@ -1,95 +1,67 @@
 -- `images::fill_images` meets its contract.
-use mathlib.Core.Path.{_≡_, ap}
-use Prim.Native.Nat.{_+_, _-_}
+use mathlib.Core.Path.{_≡_, sym, ap, _∙_}
 use native.Mathlib.Omega.{arith}
-use lib.ListN.{length, take, drop}
+use lib.Seq.{length-take-le}
 use borrow.Author.Needs.{needs}
-use Rattle.definitions.specs.Policy.{fields, rules, requests, variables}
-use Rattle.definitions.specs.Valuation.{bound}
+use Rattle.definitions.specs.Policy.{requests}
 use Rattle.policy.specs.declared.shape.Shape.{Shape}
-use Rattle.policy.specs.Sized.{Passed, TableOf}
-use Rattle.rules.specs.Rules.{lettingRequest}
-use Rattle.images.specs.Images.{ruleLevel, ruleDecision}
-use Rattle.policy.proofs.Checked.{passed}
-use Rattle.images.proofs.Imaged.{images-filled}
-use Rattle.policy.proofs.Parts.{lent-table}
-use Rattle.rules.proofs.Tables.{filled-tabled}
+use Rattle.rules.specs.RuleSets.{matching}
+use Rattle.rules.proofs.Arrays.{tabled-take}
+use Rattle.images.proofs.ImageRows.{images-are}
 use Rattle.images.proofs.fill_images.Statement.{statement}
 use Rattle.images.proofs.fill_images.Tie as tie
 
-fine : (c : tie.Start) → Passed (c .args .policy .now)
-fine c = passed (c .args .policy .now) (c .pre .0)
+requests-are : (c : tie.Start) → c .args .shape .requests ≡ requests (c .args .policy .now)
+requests-are c = ap (λ (s : Shape). s .requests) (c .pre .1)
 
-fields-are : (c : tie.Start) → c .args .shape .fields ≡ fields (c .args .policy .now)
-fields-are c = ap (λ (s : Shape). s .fields) (c .pre .1)
-
-lent : (c : tie.Start)
-    → TableOf (c .args .policy .now) (take (length (c .args .policy .now) - (9 + c .args .shape .fields)) (drop (9 + c .args .shape .fields) (c .args .policy .now)))
-lent c = lent-table (c .args .policy .now) (c .args .shape .fields) (fine c .sized) (fields-are c)
-
-add-after-counts : tie.Need-add-after-counts
-add-after-counts c = let h = fine (c .before .before .before) in omega (arith, fields-are (c .before .before .before))
-
-sub-table : tie.Need-sub-table
-sub-table c = let h = fine (c .before .before .before) in omega (arith, fields-are (c .before .before .before))
-
-part-table-start : tie.Need-part-table-start
-part-table-start c = let h = fine (c .before .before .before) in omega (arith, fields-are (c .before .before .before))
-
-part-table-end : tie.Need-part-table-end
-part-table-end c = search needs
+rule-table-requires : tie.Need-rule-table-requires
+rule-table-requires c κs = search needs
 
 slice-aggregate-fill-bounds : tie.Need-slice-aggregate-fill-bounds
 slice-aggregate-fill-bounds c = search needs
 
 fill-bounds-requires : tie.Need-fill-bounds-requires
-fill-bounds-requires c κs = (lent (c .before .before .before .before .before), fine (c .before .before .before .before .before) .sized .fewVariables)
+fill-bounds-requires c κs = search needs
 
-slice-aggregate-fill-lets : tie.Need-slice-aggregate-fill-lets
-slice-aggregate-fill-lets c = search needs
+slice-aggregate-fill-matching : tie.Need-slice-aggregate-fill-matching
+slice-aggregate-fill-matching c = search needs
 
-fill-lets-requires : tie.Need-fill-lets-requires
-fill-lets-requires c κs = (fine (c .before .before .before .before .before .before .before .before), lent (c .before .before .before .before .before .before .before .before), fine (c .before .before .before .before .before .before .before .before) .fewRequests)
+fill-matching-requires : tie.Need-fill-matching-requires
+fill-matching-requires c κs = search needs
 
-slice-aggregate-fill-levels : tie.Need-slice-aggregate-fill-levels
-slice-aggregate-fill-levels c = search needs
+slice-aggregate-fill-ranks : tie.Need-slice-aggregate-fill-ranks
+slice-aggregate-fill-ranks c = search needs
 
-slice-aggregate-fill-levels-2 : tie.Need-slice-aggregate-fill-levels-2
-slice-aggregate-fill-levels-2 c = search needs
-
-fill-levels-requires : tie.Need-fill-levels-requires
-fill-levels-requires c κs =
-    let start = c .before .before .before .before .before .before .before .before .before .before .before .before in
-    (lent start, fine start .sized .fewRules, fine start .sized .fewRules)
+fill-ranks-requires : tie.Need-fill-ranks-requires
+fill-ranks-requires c κs = search needs
 
 slice-aggregate-fill-rows : tie.Need-slice-aggregate-fill-rows
 slice-aggregate-fill-rows c = search needs
 
+array-share-prefix-sets : tie.Need-array-share-prefix-sets
+array-share-prefix-sets c = omega (arith, requests-are (c .before .before .before .before .before .before .before .before .before .before .before .before .before), c .before .before .before .before .before .fill-matching .ensures .room)
+
 slice-aggregate-fill-rows-2 : tie.Need-slice-aggregate-fill-rows-2
-slice-aggregate-fill-rows-2 c = search needs
+slice-aggregate-fill-rows-2 c = sym (length-take-le _ _ (omega (arith, requests-are (c .before .before .before .before .before .before .before .before .before .before .before .before .before .before), c .before .before .before .before .before .before .fill-matching .ensures .room)))
 
 slice-aggregate-fill-rows-3 : tie.Need-slice-aggregate-fill-rows-3
 slice-aggregate-fill-rows-3 c = search needs
 
-slice-aggregate-fill-rows-4 : tie.Need-slice-aggregate-fill-rows-4
-slice-aggregate-fill-rows-4 c = search needs
-
 fill-rows-requires : tie.Need-fill-rows-requires
 fill-rows-requires c κs =
-    let start = c .before .before .before .before .before .before .before .before .before .before .before .before .before .before .before .before .before .before .before .before in
-    let fill-bounds = c .before .before .before .before .before .before .before .before .before .before .before .before .before .before .fill-bounds in
-    let fill-lets = c .before .before .before .before .before .before .before .before .before .before .before .fill-lets in
-    let fill-levels = c .before .before .before .before .before .before .before .fill-levels in
+    let start = c .before .before .before .before .before .before .before .before .before .before .before .before .before .before .before .before in
     let p = start .args .policy .now in
-    let h = fine start in (
+    let bounds = c .before .before .before .before .before .before .before .before .before .before .before .fill-bounds in
+    let sets = c .before .before .before .before .before .before .before .before .fill-matching in
+    let q = start .args .shape .requests in
+    let are = requests-are start in (
+      start .pre .1,
       record {
-        passed = h;
-        ruled = lent start;
-        shaped = start .pre .1;
-        bounded = filled-tabled 0 (variables p) (bound p) _ _ (fill-bounds .ensures) (h .sized .fewVariables);
-        letting = filled-tabled 0 (requests p) (lettingRequest p) _ _ (fill-lets .ensures) (h .fewRequests);
-        leveled = filled-tabled 0 (rules p) (ruleLevel p) _ _ (fill-levels .ensures .0) (h .sized .fewRules);
-        deciding = filled-tabled 0 (rules p) (ruleDecision p) _ _ (fill-levels .ensures .1) (h .sized .fewRules);
+        passed = start .pre .0;
+        bounded = bounds .ensures;
+        counted = length-take-le q (sets .last .1 .1 .0) (omega (arith, are, sets .ensures .room)) ∙ are;
+        matched = tabled-take (requests p) q (matching p) (sets .last .1 .1 .0) are (sets .ensures);
+        ranked = c .before .before .before .before .before .fill-ranks .ensures;
       },
       start .pre .2,
     )
@@ -98,29 +70,23 @@ same-length : tie.Need-same-length
 same-length c = search needs
 
 returns : tie.Need-returns
-returns c =
-    let start = c .before .before .before .before .before .before .before .before .before .before .before .before .before .before .before .before .before .before .before .before .before .before .before in
-    images-filled (start .args .policy .now) (start .args .images .now) _ (c .before .before .fill-rows .ensures)
+returns c = images-are (c .before .before .before .before .before .before .before .before .before .before .before .before .before .before .before .before .before .before .before .args .policy .now) _ (c .before .before .fill-rows .ensures)
 
 pub fill-images-spec : {M : Type 1} → statement M
 fill-images-spec =
     tie.close
     (tie.spec
-    add-after-counts
-    sub-table
-    part-table-start
-    part-table-end
+    rule-table-requires
     slice-aggregate-fill-bounds
     fill-bounds-requires
-    slice-aggregate-fill-lets
-    fill-lets-requires
-    slice-aggregate-fill-levels
-    slice-aggregate-fill-levels-2
-    fill-levels-requires
+    slice-aggregate-fill-matching
+    fill-matching-requires
+    slice-aggregate-fill-ranks
+    fill-ranks-requires
     slice-aggregate-fill-rows
+    array-share-prefix-sets
     slice-aggregate-fill-rows-2
     slice-aggregate-fill-rows-3
-    slice-aggregate-fill-rows-4
     fill-rows-requires
     same-length
     returns)

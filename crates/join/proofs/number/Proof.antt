@@ -1,5 +1,5 @@
 -- `number` meets its contract: the states passed so far have their numbers.
-use Rattle.join.proofs.Numbers.{Numbering, numbering-begun, numbering-count, numbering-class, numbering-turn, numbering-done}
+use Rattle.join.proofs.Numbers.{NumberedBelow, numbering-begun, numbering-count, numbering-class, numbering-turn, numbering-done}
 use lib.ListN.{length}
 use native.Mathlib.Omega.{arith}
 use Prim.Native.Nat.{_-_}
@@ -9,7 +9,7 @@ use Rattle.join.proofs.number.Statement.{statement}
 use Rattle.join.proofs.number.Tie as tie
 
 abbrev Inv-loop : tie.InvT-loop
-Inv-loop numbers₀ order₀ count₀ s₀ numbers order count s = Numbering numbers₀ numbers order count s × (length order ≡ length order₀)
+Inv-loop numbers₀ order₀ count₀ s₀ numbers order count s = NumberedBelow numbers₀ numbers order count s × (length order ≡ length order₀)
 
 abbrev μ-loop : tie.MeasureT-loop
 μ-loop numbers₀ order₀ count₀ s₀ numbers order count s = length numbers₀ - s

@@ -1,5 +1,5 @@
 -- `write_joined_in` meets its contract: refining, numbering and writing each begin with what the one before leaves.
-use Rattle.join.proofs.Numbers.{Joined, names-first, joined}
+use Rattle.join.proofs.Numbers.{JoinedRows, names-first, joined-rows}
 use Rattle.join.proofs.BookRows.{book-length, book-done}
 use lib.ListN.{length, take}
 use native.Mathlib.Nat.{mul-le-mul-right}
@@ -15,16 +15,20 @@ size : (c : tie.After-refine-all) → length (c .refine-all .last .1 .1 .0) ≡ 
 size c = omega (arith, c .refine-all .kept .1 .1 .0, c .before .before .before .before .before .before .before .before .pre .0 .0 .some)
 
 -- and what is written of them
-joined-here : (c : tie.After-number)
-    → Joined (c .before .before .before .before .before .before .before .before .before .before .before .before .before .before .before .args .raw .now) (length (c .before .before .before .before .before .before .before .before .before .before .before .before .before .before .before .args .numbers .now) - 1) (c .before .before .before .before .before .before .before .before .before .before .before .before .before .before .before .args .w) (c .number .last .0) (take (c .number .result) (c .number .last .1 .0)) (c .number .result)
-joined-here c =
-    let p = c .before .before .before .before .before .before .before .before .before .before .before .before .before .before .before in
+abbrev start : tie.After-number → tie.Start
+start c = c .before .before .before .before .before .before .before .before .before .before .before .before .before .before .before
+
+rows : (c : tie.After-number)
+    → JoinedRows (start c .args .raw .now) (length (start c .args .numbers .now) - 1) (start c .args .w) (c .number .last .0)
+    (take (c .number .result) (c .number .last .1 .0)) (c .number .result)
+rows c =
+    let p = start c in
     let r = c .before .before .before .before .before .before .before in
-    joined (p .pre .0 .0) (size r) (r .refine-all .ensures) (c .number .last .1 .0) (p .pre .0 .1) (c .number .ensures .0) (c .number .ensures .1)
+    joined-rows (p .pre .0 .0) (size r) (r .refine-all .ensures) (c .number .last .1 .0) (p .pre .0 .1) (c .number .ensures .0) (c .number .ensures .1)
 
 -- the book has room for its bytes
-room : (c : tie.After-number) → 12 + c .number .result * c .before .before .before .before .before .before .before .before .before .before .before .before .before .before .before .args .w ≤ length (c .before .before .before .before .before .before .before .before .before .before .before .before .before .before .before .args .book .now)
-room c = omega (arith, mul-le-mul-right (c .before .before .before .before .before .before .before .before .before .before .before .before .before .before .before .args .w) (joined-here c .few), c .before .before .before .before .before .before .before .before .before .before .before .before .before .before .before .pre)
+room : (c : tie.After-number) → 12 + c .number .result * start c .args .w ≤ length (start c .args .book .now)
+room c = omega (arith, mul-le-mul-right (start c .args .w) (rows c .few), start c .pre)
 
 refine-all-requires : tie.Need-refine-all-requires
 refine-all-requires c κs = search needs
@@ -37,19 +41,21 @@ number-requires c κs =
 
 write-header-requires : tie.Need-write-header-requires
 write-header-requires c κs =
-    let p = c .before .before .before .before .before .before .before .before .before .before .before .before .before .before .before .before .before .before .before .before in
-    let j = joined-here (c .before .before .before .before .before) in
+    let p = start (c .before .before .before .before .before) in
+    let j = rows (c .before .before .before .before .before) in
     (omega (arith, p .pre), p .pre .1 .1 .1, omega (arith, j .few, p .pre))
 
 slice-reshare-prefix-write-rows : tie.Need-slice-reshare-prefix-write-rows
-slice-reshare-prefix-write-rows c = omega (arith, joined-here (c .before .before .before .before .before .before .before .before .before) .few, c .before .before .before .before .before .before .before .before .before .number .kept, c .before .before .before .before .before .before .before .before .before .before .before .before .before .before .before .before .refine-all .kept, c .before .before .before .before .before .before .before .before .before .before .before .before .before .before .before .before .before .before .before .before .before .before .before .before .pre)
+slice-reshare-prefix-write-rows c =
+    let n = c .before .before .before .before .before .before .before .before .before in
+    omega (arith, rows n .few, n .number .kept, n .before .before .before .before .before .before .before .refine-all .kept, start n .pre)
 
 slice-aggregate-write-rows : tie.Need-slice-aggregate-write-rows
-slice-aggregate-write-rows c = sym (joined-here (c .before .before .before .before .before .before .before .before .before .before) .size)
+slice-aggregate-write-rows c = sym (rows (c .before .before .before .before .before .before .before .before .before .before) .size)
 
 write-rows-requires : tie.Need-write-rows-requires
 write-rows-requires c κs =
-    let j = joined-here (c .before .before .before .before .before .before .before .before .before .before .before) in
+    let j = rows (c .before .before .before .before .before .before .before .before .before .before .before) in
     ((j .table, j .states), rw (j .size) (omega (arith, room (c .before .before .before .before .before .before .before .before .before .before .before), c .before .before .before .before .before .write-header .kept)))
 
 mul-result : tie.Need-mul-result
@@ -69,9 +75,9 @@ same-length-3 c = search needs
 
 returns : tie.Need-returns
 returns c =
-    let p = c .before .before .before .before .before .before .before .before .before .before .before .before .before .before .before .before .before .before .before .before .before .before .before .before .before .before .before .before .before in
+    let p = start (c .before .before .before .before .before .before .before .before .before .before .before .before .before .before) in
     let six = p .pre .1 .1 .1 in
-    let j = joined-here (c .before .before .before .before .before .before .before .before .before .before .before .before .before .before) in
+    let j = rows (c .before .before .before .before .before .before .before .before .before .before .before .before .before .before) in
     let h = c .before .before .before .before .before .before .before .before .write-header in
     (book-length (p .args .frame .now) six j, book-done (p .args .frame .now) six j (p .args .book .now) (h .last .0) (h .ensures) (c .before .before .write-rows .ensures))
 

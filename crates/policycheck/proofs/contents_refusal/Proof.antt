@@ -4,7 +4,6 @@ use borrow.Author.Needs.{needs}
 use Rattle.definitions.specs.Refusal.{contentChecks}
 use Rattle.definitions.proofs.Tests.{failed, held}
 use Rattle.definitions.proofs.CheckLists.{PassedBefore, row-refuses, rows-from}
-use Rattle.policy.proofs.Parts.{lent-table}
 use Rattle.policycheck.proofs.contents_refusal.Statement.{statement}
 use Rattle.policycheck.proofs.contents_refusal.Tie as tie
 
@@ -12,13 +11,13 @@ use Rattle.policycheck.proofs.contents_refusal.Tie as tie
 past7 : (c : tie.Else1) → PassedBefore 8 contentChecks (c .before .before .before .args .policy .now)
 past7 c = record { passed = (tt, held _ _ (c .before .counts-hold .ensures) (c .if1 .left)) }
 
-past8 : (c : tie.Else2) → PassedBefore 9 contentChecks (c .before .before .before .before .before .before .before .args .policy .now)
-past8 c = record { passed = (past7 (c .before .before .before .before) .passed, held _ _ (c .before .masks-hold .ensures) (c .if2 .left)) }
+past8 : (c : tie.Else2) → PassedBefore 9 contentChecks (c .before .before .before .before .before .before .args .policy .now)
+past8 c = record { passed = (past7 (c .before .before .before) .passed, held _ _ (c .before .masks-hold .ensures) (c .if2 .left)) }
 
-past9 : (c : tie.Else3) → PassedBefore 10 contentChecks (c .before .before .before .before .before .before .before .before .before .args .policy .now)
+past9 : (c : tie.Else3) → PassedBefore 10 contentChecks (c .before .before .before .before .before .before .before .before .args .policy .now)
 past9 c = record { passed = (past8 (c .before .before) .passed, held _ _ (c .before .values-hold .ensures) (c .if3 .left)) }
 
-past10 : (c : tie.Else4) → PassedBefore 0 contentChecks (c .before .before .before .before .before .before .before .before .before .before .before .args .policy .now)
+past10 : (c : tie.Else4) → PassedBefore 0 contentChecks (c .before .before .before .before .before .before .before .before .before .before .args .policy .now)
 past10 c = record { passed = (past9 (c .before .before) .passed, held _ _ (c .before .valuations-hold .ensures) (c .if4 .left)) }
 
 counts-hold-requires : tie.Need-counts-hold-requires
@@ -27,43 +26,23 @@ counts-hold-requires c κs = search needs
 returns : tie.Need-returns
 returns c = simp (failed _ _ (c .before .counts-hold .ensures) (c .if1 .taken))
 
-fields-requires : tie.Need-fields-requires
-fields-requires c κs = search needs
-
-add-after-counts : tie.Need-add-after-counts
-add-after-counts c = search needs
-
-sub-table : tie.Need-sub-table
-sub-table c = search needs
-
-part-table-start : tie.Need-part-table-start
-part-table-start c = search needs
-
-part-table-end : tie.Need-part-table-end
-part-table-end c = search needs
+rule-table-requires : tie.Need-rule-table-requires
+rule-table-requires c κs = search needs
 
 masks-hold-requires : tie.Need-masks-hold-requires
-masks-hold-requires c κs =
-    let start = c .before .before .before .before .before in
-    (lent-table (start .args .policy .now) (c .before .fields .result) (start .pre) (c .before .fields .ensures .0), past7 (c .before .before) .passed .1)
+masks-hold-requires c κs = (c .rule-table .ensures, past7 (c .before) .passed .1)
 
 returns-2 : tie.Need-returns-2
-returns-2 c = row-refuses (past7 (c .before .before .before .before)) (failed _ _ (c .before .masks-hold .ensures) (c .if2 .taken))
+returns-2 c = row-refuses (past7 (c .before .before .before)) (failed _ _ (c .before .masks-hold .ensures) (c .if2 .taken))
 
 values-hold-requires : tie.Need-values-hold-requires
-values-hold-requires c κs =
-    let start = c .before .before .before .before .before .before .before in
-    let fields = c .before .before .before .fields in
-    lent-table (start .args .policy .now) (fields .result) (start .pre) (fields .ensures .0)
+values-hold-requires c κs = c .before .before .rule-table .ensures
 
 returns-3 : tie.Need-returns-3
 returns-3 c = row-refuses (past8 (c .before .before)) (failed _ _ (c .before .values-hold .ensures) (c .if3 .taken))
 
 valuations-hold-requires : tie.Need-valuations-hold-requires
-valuations-hold-requires c κs =
-    let start = c .before .before .before .before .before .before .before .before .before in
-    let fields = c .before .before .before .before .before .fields in
-    lent-table (start .args .policy .now) (fields .result) (start .pre) (fields .ensures .0)
+valuations-hold-requires c κs = c .before .before .before .before .rule-table .ensures
 
 returns-4 : tie.Need-returns-4
 returns-4 c = row-refuses (past9 (c .before .before)) (failed _ _ (c .before .valuations-hold .ensures) (c .if4 .taken))
@@ -77,11 +56,7 @@ contents-refusal-spec =
     (tie.spec
     counts-hold-requires
     returns
-    fields-requires
-    add-after-counts
-    sub-table
-    part-table-start
-    part-table-end
+    rule-table-requires
     masks-hold-requires
     returns-2
     values-hold-requires

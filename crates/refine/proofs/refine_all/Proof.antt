@@ -2,13 +2,13 @@
 use mathlib.Core.Path.{_≡_, sym, _∙_}
 use native.Mathlib.Omega.{arith}
 use Rattle.refine.proofs.RoundSequence.{copied}
-use Rattle.refine.proofs.Refinement.{Refining, roundsLeft, refining-begun, refining-turn, refining-less}
+use Rattle.refine.proofs.Refinement.{AfterRounds, roundsLeft, refining-begun, refining-turn, refining-less}
 use borrow.Author.Needs.{needs}
 use Rattle.refine.proofs.refine_all.Statement.{statement}
 use Rattle.refine.proofs.refine_all.Tie as tie
 
 abbrev Inv-loop : tie.InvT-loop
-Inv-loop raw w classes₀ next₀ leads moved₀ classes next moved = Refining raw w leads classes₀ classes next moved
+Inv-loop raw w classes₀ next₀ leads moved₀ classes next moved = AfterRounds raw w leads classes₀ classes next moved
 
 abbrev μ-loop : tie.MeasureT-loop
 μ-loop raw w classes₀ next₀ leads moved₀ classes next moved = roundsLeft classes moved
@@ -16,8 +16,9 @@ abbrev μ-loop : tie.MeasureT-loop
 -- the classes of a round are taken over
 taken : (c : tie.After-slice-known4 Inv-loop μ-loop) → c .before .before .copy .last .1 .0 ≡ c .before .before .before .before .before .before .before .round .last .1 .1 .1 .1 .1 .0
 taken c =
-    c .before .before .copy .ensures .1
-    ∙ copied (c .before .before .before .before .before .before .before .round .last .1 .1 .1 .1 .1 .0) (c .before .before .before .before .before .before .before .before .before .before .before .before .loop .classes) (c .before .before .before .before .before .before .before .round .kept .1 .1 .1 .1 .1 .0 ∙ c .before .before .before .before .before .before .before .before .before .before .before .before .loop .inv .room)
+    let r = c .before .before .before .before .before .before .before .round in
+    let l = c .before .before .before .before .before .before .before .before .before .before .before .before .loop in
+    c .before .before .copy .ensures .1 ∙ copied (r .last .1 .1 .1 .1 .1 .0) (l .classes) (r .kept .1 .1 .1 .1 .1 .0 ∙ l .inv .room)
 
 sub-fill-leads : tie.Need-sub-fill-leads Inv-loop μ-loop
 sub-fill-leads c = search needs
@@ -45,10 +46,14 @@ copy-requires : tie.Need-copy-requires Inv-loop μ-loop
 copy-requires c κs = omega (arith, c .before .before .before .before .round .kept .1 .1 .1 .1 .1 .0, c .before .before .before .before .before .before .before .before .before .loop .inv .room)
 
 loop-less : tie.Need-loop-less Inv-loop μ-loop
-loop-less c = refining-less (c .before .before .before .before .before .before .before .before .before .before .before .before .loop .inv) (c .before .before .before .before .before .before .before .round .ensures .1) (taken c) (c .before .before .before .before .before .before .before .round .ensures .0) (c .before .before .before .before .before .before .before .before .before .before .before .loop-test .taken)
+loop-less c =
+    let r = c .before .before .before .before .before .before .before .round in
+    refining-less (c .before .before .before .before .before .before .before .before .before .before .before .before .loop .inv) (r .ensures .1) (taken c) (r .ensures .0) (c .before .before .before .before .before .before .before .before .before .before .before .loop-test .taken)
 
 loop-again : tie.Need-loop-again Inv-loop μ-loop
-loop-again c = refining-turn (c .before .before .before .before .before .before .before .before .before .before .before .before .loop .inv) (c .before .before .before .before .before .before .before .round .ensures .1) (taken c) (c .before .before .before .before .before .before .before .round .ensures .0)
+loop-again c =
+    let r = c .before .before .before .before .before .before .before .round in
+    refining-turn (c .before .before .before .before .before .before .before .before .before .before .before .before .loop .inv) (r .ensures .1) (taken c) (r .ensures .0)
 
 same-length : tie.Need-same-length Inv-loop μ-loop
 same-length c = c .before .loop .inv .long

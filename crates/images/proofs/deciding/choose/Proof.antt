@@ -1,4 +1,4 @@
--- `images::deciding::choose` meets its contract. The loop's invariant: the choice is that among the rules below k, and `left` has the other rules, shifted down by k.
+-- `images::deciding::choose` meets its contract. The loop's invariant: the choice is that among the rules below k, and `rest` has the other rules, shifted down by k.
 use mathlib.Core.Path.{_≡_, sym, _∙_}
 use Prim.Native.Nat.{_≤_, _<_, _+_, _/_, _^_}
 use native.Mathlib.Omega.{arith}
@@ -7,32 +7,28 @@ use lib.Pow.{shr-le}
 use borrow.Author.Needs.{needs}
 use Rattle.images.specs.Choice.{Chosen}
 use Rattle.rules.proofs.RuleSets.{Member, lowest-member, left-next}
-use Rattle.images.proofs.Choosing.{chosen-turn, chosen-done}
+use Rattle.images.proofs.Choices.{chosen-turn, chosen-done}
 use Rattle.images.proofs.deciding.choose.Statement.{statement}
 use Rattle.images.proofs.deciding.choose.Tie as tie
 
 abbrev Inv-loop : tie.InvT-loop
-Inv-loop fits levels decisions targets choice₀ left₀ k₀ choice left k = (k ≤ length levels) × (left ≡ fits / 2 ^ k) × Chosen fits levels decisions targets k choice
+Inv-loop fits ranks targets choice₀ rest₀ k₀ choice rest k = (k ≤ length ranks) × (rest ≡ fits / 2 ^ k) × Chosen fits ranks targets k choice
 
 abbrev μ-loop : tie.MeasureT-loop
-μ-loop fits levels decisions targets choice₀ left₀ k₀ choice left k = left
+μ-loop fits ranks targets choice₀ rest₀ k₀ choice rest k = rest
 
 member : (c : tie.After-lowest Inv-loop μ-loop)
-    → let start = c .before .before .before .before .before .before .before in
-    let loop = c .before .before .loop in
-    Member (start .args .fits) (loop .k) (loop .k + c .lowest .result)
+    → let loop = c .before .before .loop in
+    Member (c .before .before .before .before .before .before .args .fits) (loop .k) (loop .k + c .lowest .result)
 member c =
-    let start = c .before .before .before .before .before .before .before in
     let loop = c .before .before .loop in
-    lowest-member (start .args .fits) (loop .k) (loop .left) (c .lowest .result) (omega arith) (loop .inv .1) (c .before .loop-test .taken) (c .lowest .ensures)
+    lowest-member (c .before .before .before .before .before .before .args .fits) (loop .k) (loop .rest) (c .lowest .result) (omega arith) (loop .inv .1) (c .before .loop-test .taken) (c .lowest .ensures)
 
 listed : (c : tie.After-lowest Inv-loop μ-loop)
-    → let start = c .before .before .before .before .before .before .before in
+    → let a = c .before .before .before .before .before .before .args in
     let m = c .before .before .loop .k + c .lowest .result in
-    (m < length (start .args .levels .now)) × (m < length (start .args .decisions .now)) × (m < length (start .args .targets .now)) × (getD (start .args .targets .now) m 0 < 64)
-listed c =
-    let start = c .before .before .before .before .before .before .before in
-    start .pre (c .before .before .loop .k + c .lowest .result) (member c .here)
+    (m < length (a .ranks .now)) × (m < length (a .targets .now)) × (getD (a .targets .now) m 0 < 64)
+listed c = c .before .before .before .before .before .before .pre (c .before .before .loop .k + c .lowest .result) (member c .here)
 
 empty-requires : tie.Need-empty-requires Inv-loop μ-loop
 empty-requires c κs = search needs
@@ -46,58 +42,48 @@ lowest-requires c κs = search needs
 add-k : tie.Need-add-k Inv-loop μ-loop
 add-k c = omega (arith, member c .below)
 
+mul-rank : tie.Need-mul-rank Inv-loop μ-loop
+mul-rank c = omega (arith, member c .below)
+
+shared-slice-read-rank : tie.Need-shared-slice-read-rank Inv-loop μ-loop
+shared-slice-read-rank c = listed (c .before) .0
+
 mul-with-rule : tie.Need-mul-with-rule Inv-loop μ-loop
-mul-with-rule c = omega (arith, member c .below)
+mul-with-rule c = omega (arith, member (c .before) .below)
 
 shared-slice-read-with-rule : tie.Need-shared-slice-read-with-rule Inv-loop μ-loop
-shared-slice-read-with-rule c = listed (c .before) .0
-
-mul-with-rule-2 : tie.Need-mul-with-rule-2 Inv-loop μ-loop
-mul-with-rule-2 c = omega (arith, member (c .before) .below)
-
-shared-slice-read-with-rule-2 : tie.Need-shared-slice-read-with-rule-2 Inv-loop μ-loop
-shared-slice-read-with-rule-2 c = listed (c .before .before) .1
-
-mul-with-rule-3 : tie.Need-mul-with-rule-3 Inv-loop μ-loop
-mul-with-rule-3 c = omega (arith, member (c .before .before) .below)
-
-shared-slice-read-with-rule-3 : tie.Need-shared-slice-read-with-rule-3 Inv-loop μ-loop
-shared-slice-read-with-rule-3 c = listed (c .before .before .before) .2
+shared-slice-read-with-rule c = listed (c .before .before) .1
 
 with-rule-requires : tie.Need-with-rule-requires Inv-loop μ-loop
-with-rule-requires c κs = listed (c .before .before .before) .3
+with-rule-requires c κs = listed (c .before .before) .2
 
-shr-left : tie.Need-shr-left Inv-loop μ-loop
-shr-left c = omega (arith, member (c .before .before .before .before) .below)
+shr-rest : tie.Need-shr-rest Inv-loop μ-loop
+shr-rest c = omega (arith, member (c .before .before .before) .below)
 
 add-k-2 : tie.Need-add-k-2 Inv-loop μ-loop
-add-k-2 c = omega (arith, member (c .before .before .before .before) .below)
+add-k-2 c = omega (arith, member (c .before .before .before) .below)
 
 loop-less : tie.Need-loop-less Inv-loop μ-loop
 loop-less c =
-    let loop = c .before .before .before .before .before .before .loop in
-    let some = c .before .before .before .before .before .loop-test .taken in
-    let h = shr-le (loop .left) (c .before .before .before .before .lowest .result) in omega (arith, some, h)
+    let h = shr-le (c .before .before .before .before .before .loop .rest) (c .before .before .before .lowest .result) in omega (arith, c .before .before .before .before .loop-test .taken, h)
 
 loop-again : tie.Need-loop-again Inv-loop μ-loop
 loop-again c =
-    let start = c .before .before .before .before .before .before .before .before .before .before .before in
-    let lowest = c .before .before .before .before .lowest in
-    let loop = c .before .before .before .before .before .before .loop in
-    let a = start .args in
+    let a = c .before .before .before .before .before .before .before .before .before .args in
+    let lowest = c .before .before .before .lowest in
+    let loop = c .before .before .before .before .before .loop in
     let w = c .with-rule in (
-      omega (arith, listed (c .before .before .before .before)),
-      left-next (a .fits) (loop .k) (loop .left) (lowest .result) (loop .inv .1),
-      chosen-turn (a .fits) (a .levels .now) (a .decisions .now) (a .targets .now) (loop .k) (loop .k + lowest .result) (loop .choice) (w .result) (omega arith) (member (c .before .before .before .before)) (loop .inv .2)
+      omega (arith, listed (c .before .before .before)),
+      left-next (a .fits) (loop .k) (loop .rest) (lowest .result) (loop .inv .1),
+      chosen-turn (a .fits) (a .ranks .now) (a .targets .now) (loop .k) (loop .k + lowest .result) (loop .choice) (w .result) (omega arith) (member (c .before .before .before)) (loop .inv .2)
           (w .ensures .0) (w .ensures .1) (w .ensures .2),
     )
 
 returns : tie.Need-returns Inv-loop μ-loop
 returns c =
-    let start = c .before .before .before .before .before .before in
+    let a = c .before .before .before .before .before .args in
     let loop = c .before .loop in
-    let a = start .args in
-    chosen-done (a .fits) (a .levels .now) (a .decisions .now) (a .targets .now) (loop .k) (length (a .levels .now)) (loop .choice) (loop .inv .0) (sym (loop .inv .1) ∙ c .loop-test .left) (loop .inv .2)
+    chosen-done (a .fits) (a .ranks .now) (a .targets .now) (loop .k) (length (a .ranks .now)) (loop .choice) (loop .inv .0) (sym (loop .inv .1) ∙ c .loop-test .left) (loop .inv .2)
 
 pub choose-spec : {M : Type 1} → statement M
 choose-spec =
@@ -109,14 +95,12 @@ choose-spec =
     loop-holds
     lowest-requires
     add-k
+    mul-rank
+    shared-slice-read-rank
     mul-with-rule
     shared-slice-read-with-rule
-    mul-with-rule-2
-    shared-slice-read-with-rule-2
-    mul-with-rule-3
-    shared-slice-read-with-rule-3
     with-rule-requires
-    shr-left
+    shr-rest
     add-k-2
     loop-less
     loop-again

@@ -1,29 +1,21 @@
--- `counts_in_range` meets its contract. The loop's invariant: every count before f is in its range.
+-- `counts_in_range` meets its contract. The loop's invariant: `pass` says whether every count before f is in its range.
 use mathlib.Core.Path.{_≡_, ap, _∙_}
-use mathlib.Core.Bool.{true}
 use Prim.Native.Nat.{ℕ, _≤_, _-_}
 use native.Mathlib.Omega.{arith}
 use borrow.Author.Needs.{needs}
 use Rattle.automaton.specs.Below.{allBelow}
-use Rattle.automaton.proofs.Loops.{all-more, all-fails, all-done}
+use Rattle.automaton.proofs.Loops.{all-next}
 use Rattle.definitions.specs.Bytes.{within}
 use Rattle.definitions.specs.Policy.{fields}
 use Rattle.definitions.specs.Refusal.{countInRange}
-use Rattle.definitions.proofs.Tests.{failed, held}
 use Rattle.policycheck.proofs.counts.counts_in_range.Statement.{statement}
 use Rattle.policycheck.proofs.counts.counts_in_range.Tie as tie
 
 abbrev Inv-loop : tie.InvT-loop
-Inv-loop policy n f₀ f = (f ≤ n) × (allBelow f (countInRange policy) ≡ true)
+Inv-loop policy n pass₀ f₀ pass f = (f ≤ n) × (pass ≡ allBelow f (countInRange policy))
 
 abbrev μ-loop : tie.MeasureT-loop
-μ-loop policy n f₀ f = n - f
-
-judged : (c : tie.After-in-range Inv-loop μ-loop)
-    → let start = c .before .before .before .before .before .before in
-    let loop = c .before .before .before .loop in
-    c .in-range .result ≡ countInRange (start .args .policy .now) (loop .f)
-judged c = c .in-range .ensures ∙ ap (λ (x : ℕ). within 1 x 16) (c .before .count .ensures .0)
+μ-loop policy n pass₀ f₀ pass f = n - f
 
 fields-requires : tie.Need-fields-requires Inv-loop μ-loop
 fields-requires c κs = search needs
@@ -37,13 +29,6 @@ count-requires c κs = search needs
 in-range-requires : tie.Need-in-range-requires Inv-loop μ-loop
 in-range-requires c κs = search needs
 
-returns : tie.Need-returns Inv-loop μ-loop
-returns c =
-    let start = c .before .before .before .before .before .before .before in
-    let loop = c .before .before .before .before .loop in
-    all-fails (countInRange (start .args .policy .now)) (fields (start .args .policy .now)) (loop .f) (omega arith)
-    (failed _ _ (judged (c .before)) (c .if1 .taken))
-
 add-f : tie.Need-add-f Inv-loop μ-loop
 add-f c = search needs
 
@@ -52,17 +37,18 @@ loop-less c = search needs
 
 loop-again : tie.Need-loop-again Inv-loop μ-loop
 loop-again c =
-    let start = c .before .before .before .before .before .before .before in
-    let loop = c .before .before .before .before .loop in (
+    let start = c .before .before .before .before .before .before in
+    let loop = c .before .before .before .loop in (
       omega arith,
-      all-more (countInRange (start .args .policy .now)) (loop .f) (loop .inv .1)
-          (held _ _ (judged (c .before)) (c .if1 .left)),
+      all-next (countInRange (start .args .policy .now)) (loop .f) (loop .pass) (c .in-range .result) (loop .inv .1)
+          (c .in-range .ensures ∙ ap (λ (x : ℕ). within 1 x 16) (c .before .count .ensures .0)),
     )
 
-returns-2 : tie.Need-returns-2 Inv-loop μ-loop
-returns-2 c =
+returns : tie.Need-returns Inv-loop μ-loop
+returns c =
     let start = c .before .before .before .before in
-    all-done (countInRange (start .args .policy .now)) (fields (start .args .policy .now)) (c .before .loop .f) (omega arith) (c .before .loop .inv .1)
+    let e : c .before .loop .f ≡ fields (start .args .policy .now) = omega arith in
+    rw (← e) (c .before .loop .inv .1)
 
 pub counts-in-range-spec : {M : Type 1} → statement M
 counts-in-range-spec =
@@ -74,8 +60,7 @@ counts-in-range-spec =
     loop-holds
     count-requires
     in-range-requires
-    returns
     add-f
     loop-less
     loop-again
-    returns-2)
+    returns)

@@ -1,11 +1,7 @@
 -- `mask_holds` meets its contract.
 use Prim.Native.Nat.{_<_}
 use native.Mathlib.Omega.{arith}
-use lib.Dec.{leb}
-use borrow.Author.Tests.{le-leb, lt-leb}
 use borrow.Author.Needs.{needs}
-use Rattle.definitions.specs.Policy.{mask}
-use Rattle.policycheck.proofs.Rows.{and-last}
 use Rattle.definitions.proofs.Sets.{one-shifted}
 use Rattle.policy.proofs.Checked.{count-in-range}
 use Rattle.policycheck.proofs.masks.mask_holds.Statement.{statement}
@@ -13,16 +9,11 @@ use Rattle.policycheck.proofs.masks.mask_holds.Tie as tie
 
 narrow : (c : tie.After-count) → c .count .result < 64
 narrow c =
-    let start = c .before .before .before .before .before in
+    let start = c .before .before .before .before in
     omega (arith, count-in-range (start .args .policy .now) (start .pre .1) (start .args .f) (start .pre .2))
 
 mask-requires : tie.Need-mask-requires
 mask-requires c κs = search needs
-
-returns : tie.Need-returns
-returns c =
-    let start = c .before .before .before .before in
-    rw (lt-leb 1 (mask (start .args .rule .now) (start .args .f)) (omega arith))
 
 count-requires : tie.Need-count-requires
 count-requires c κs = search needs
@@ -30,11 +21,8 @@ count-requires c κs = search needs
 shl-result : tie.Need-shl-result
 shl-result c = narrow c
 
-returns-2 : tie.Need-returns-2
-returns-2 c =
-    let start = c .before .before .before .before .before in
-    and-last (leb 1 (mask (start .args .rule .now) (start .args .f))) _ _ (le-leb 1 (mask (start .args .rule .now) (start .args .f)) (omega arith))
-    (rw (one-shifted (c .count .result) (narrow c), c .before .before .mask .ensures .0, c .count .ensures .0))
+returns : tie.Need-returns
+returns c = rw (one-shifted (c .count .result) (narrow c), c .before .mask .ensures .0, c .count .ensures .0)
 
 pub mask-holds-spec : {M : Type 1} → statement M
-mask-holds-spec = tie.close (tie.spec mask-requires returns count-requires shl-result returns-2)
+mask-holds-spec = tie.close (tie.spec mask-requires count-requires shl-result returns)

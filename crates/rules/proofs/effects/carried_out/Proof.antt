@@ -1,5 +1,4 @@
--- `rules::effects::carried_out` meets its contract. The loop's invariant: `sum` has the changed variables before j, and `worth` is what one of variable j is
--- worth.
+-- `rules::effects::carried_out` meets its contract. The loop's invariant: `sum` has the changed variables from j on.
 use mathlib.Core.Path.{_≡_, ap, _∙_}
 use Prim.Native.Nat.{ℕ, _≤_, _<_, _-_, _+_, _*_}
 use native.Mathlib.Omega.{arith}
@@ -7,64 +6,67 @@ use lib.ListN.{length, getD}
 use borrow.Author.Needs.{needs}
 use Rattle.definitions.specs.Policy.{variables}
 use Rattle.definitions.specs.Valuation.{bound, changed}
-use Rattle.rules.specs.Tables.{entryOf}
-use Rattle.rules.specs.Valuations.{spread}
-use Rattle.rules.proofs.Valuations.{Carrying, carrying-more, carrying-fits, bound-small}
+use Rattle.rules.specs.Arrays.{entryOf}
+use Rattle.rules.specs.Changes.{changeAt}
+use Rattle.rules.proofs.Changes.{Carrying, carrying-begun, carrying-more, carrying-done, carried-low, carrying-fits, bound-small}
 use Rattle.rules.proofs.effects.carried_out.Statement.{statement}
 use Rattle.rules.proofs.effects.carried_out.Tie as tie
 
 abbrev Inv-loop : tie.InvT-loop
-Inv-loop policy part first step bounds values n worth₀ sum₀ j₀ worth sum j = (j ≤ n) × Carrying policy (spread part first step) (entryOf values) j worth sum
+Inv-loop policy part first step bounds values sum₀ j₀ sum j = (j ≤ variables policy) × Carrying policy (changeAt part first step) (entryOf values) j sum
 
 abbrev μ-loop : tie.MeasureT-loop
-μ-loop policy part first step bounds values n worth₀ sum₀ j₀ worth sum j = n - j
+μ-loop policy part first step bounds values sum₀ j₀ sum j = j
 
 bound-is : (c : tie.In-loop Inv-loop μ-loop)
     → let start = c .before .before .before .before .before .before .before in
-    getD (start .args .bounds .now) (c .before .loop .j) 0 ≡ bound (start .args .policy .now) (c .before .loop .j)
+    getD (start .args .bounds .now) (c .before .loop .j - 1) 0 ≡ bound (start .args .policy .now) (c .before .loop .j - 1)
 bound-is c =
     let start = c .before .before .before .before .before .before .before in
-    start .pre .1 .entry (c .before .loop .j) (omega arith)
+    start .pre .1 .entry (c .before .loop .j - 1) (omega arith)
 
 within : (c : tie.In-loop Inv-loop μ-loop)
     → let start = c .before .before .before .before .before .before .before in
-    start .args .first + start .args .step * c .before .loop .j < length (start .args .part .now)
+    start .args .first + start .args .step * (c .before .loop .j - 1) < length (start .args .part .now)
 within c =
     let start = c .before .before .before .before .before .before .before in
-    start .pre .3 (c .before .loop .j) (omega arith)
+    start .pre .3 (c .before .loop .j - 1) (omega arith)
 
--- the two numbers after the turn
+-- the number after the turn
 next : (c : tie.After-changed Inv-loop μ-loop)
     → let start = c .before .before .before .before .before .before .before .before .before .before .before .before in
     let loop = c .before .before .before .before .before .before .loop in
-    Carrying (start .args .policy .now) (spread (start .args .part .now) (start .args .first) (start .args .step)) (entryOf (start .args .values .now)) (loop .j + 1)
-    (loop .worth * (getD (start .args .bounds .now) (loop .j) 0 + 1))
-    (loop .sum + c .changed .result * loop .worth)
+    Carrying (start .args .policy .now) (changeAt (start .args .part .now) (start .args .first) (start .args .step)) (entryOf (start .args .values .now)) (loop .j - 1)
+    (loop .sum * (getD (start .args .bounds .now) (loop .j - 1) 0 + 1) + c .changed .result)
 next c =
-    let start = c .before .before .before .before .before .before .before .before .before .before .before .before in
+    let a = c .before .before .before .before .before .before .before .before .before .before .before .before .args in
     let loop = c .before .before .before .before .before .before .loop in
-    let a = start .args in
-    let most = getD (a .bounds .now) (loop .j) 0 in
-    carrying-more (a .policy .now) (spread (a .part .now) (a .first) (a .step)) (entryOf (a .values .now)) (loop .j) (loop .worth) (loop .sum) most (c .changed .result) (loop .inv .1) (bound-is (c .before .before .before .before .before))
-    (c .changed .ensures .0 ∙ ap (λ (n : ℕ). changed n most (entryOf (a .values .now) (loop .j))) (c .before .before .wide .ensures .0))
+    let most = getD (a .bounds .now) (loop .j - 1) 0 in
+    carrying-more (a .policy .now) (changeAt (a .part .now) (a .first) (a .step)) (entryOf (a .values .now)) (loop .j) (loop .sum) most (c .changed .result)
+    (omega arith) (loop .inv .1) (bound-is (c .before .before .before .before .before))
+    (c .changed .ensures .0 ∙ ap (λ (n : ℕ). changed n most (entryOf (a .values .now) (loop .j - 1))) (c .before .before .wide .ensures .0))
 
 fits : (c : tie.After-changed Inv-loop μ-loop)
     → let start = c .before .before .before .before .before .before .before .before .before .before .before .before in
     let loop = c .before .before .before .before .before .before .loop in
-    (loop .sum + c .changed .result * loop .worth < 64)
-    × (loop .worth * (getD (start .args .bounds .now) (loop .j) 0 + 1) ≤ 64)
+    loop .sum * (getD (start .args .bounds .now) (loop .j - 1) 0 + 1) + c .changed .result < 64
 fits c =
     let start = c .before .before .before .before .before .before .before .before .before .before .before .before in
-    let loop = c .before .before .before .before .before .before .loop in
     let a = start .args in
-    carrying-fits (a .policy .now) (spread (a .part .now) (a .first) (a .step)) (entryOf (a .values .now)) (start .pre .2 .most) (start .pre .0) (loop .j + 1)
-    (loop .worth * (getD (a .bounds .now) (loop .j) 0 + 1)) (loop .sum + c .changed .result * loop .worth) (omega arith) (next c)
+    let loop = c .before .before .before .before .before .before .loop in
+    carrying-fits (a .policy .now) (changeAt (a .part .now) (a .first) (a .step)) (entryOf (a .values .now)) (start .pre .0) (start .pre .2 .most) (loop .j - 1)
+    (loop .sum * (getD (a .bounds .now) (loop .j - 1) 0 + 1) + c .changed .result) (next c)
 
 variables-requires : tie.Need-variables-requires Inv-loop μ-loop
 variables-requires c κs = search needs
 
 loop-holds : tie.Need-loop-holds Inv-loop μ-loop
-loop-holds c = search needs
+loop-holds c =
+    let a = c .before .before .before .before .before .args in
+    (omega arith, carrying-begun (a .policy .now) (changeAt (a .part .now) (a .first) (a .step)) (entryOf (a .values .now)) (c .variables .result) (c .variables .ensures .0))
+
+sub-j : tie.Need-sub-j Inv-loop μ-loop
+sub-j c = search needs
 
 mul-most : tie.Need-mul-most Inv-loop μ-loop
 mul-most c = search needs
@@ -85,32 +87,26 @@ wide-requires : tie.Need-wide-requires Inv-loop μ-loop
 wide-requires c κs = search needs
 
 mul-changed : tie.Need-mul-changed Inv-loop μ-loop
-mul-changed c = let start = c .before .before .before .before .before .before .before .before .before .before in omega (arith, start .pre .2 .room)
+mul-changed c = search needs
 
 shared-slice-read-changed : tie.Need-shared-slice-read-changed Inv-loop μ-loop
-shared-slice-read-changed c = let start = c .before .before .before .before .before .before .before .before .before .before .before in omega (arith, start .pre .2 .room)
+shared-slice-read-changed c = search needs
 
 changed-requires : tie.Need-changed-requires Inv-loop μ-loop
 changed-requires c κs =
     let start = c .before .before .before .before .before .before .before .before .before .before .before in
-    rw (bound-is (c .before .before .before .before)) (start .pre .2 .most (c .before .before .before .before .before .loop .j) (omega arith))
+    rw (bound-is (c .before .before .before .before)) (start .pre .2 .most (c .before .before .before .before .before .loop .j - 1) (omega arith))
+
+add-sum : tie.Need-add-sum Inv-loop μ-loop
+add-sum c =
+    let start = c .before .before .before .before .before .before .before .before .before .before .before .before in
+    let small = bound-small (start .args .policy .now) (start .pre .0) (c .before .before .before .before .before .before .loop .j - 1) (omega arith) in omega (arith, bound-is (c .before .before .before .before .before))
 
 mul-sum : tie.Need-mul-sum Inv-loop μ-loop
 mul-sum c = omega (arith, fits c)
 
-add-sum : tie.Need-add-sum Inv-loop μ-loop
-add-sum c = omega (arith, fits c)
-
-add-worth : tie.Need-add-worth Inv-loop μ-loop
-add-worth c =
-    let start = c .before .before .before .before .before .before .before .before .before .before .before .before in
-    let small = bound-small (start .args .policy .now) (start .pre .0) (c .before .before .before .before .before .before .loop .j) (omega arith) in omega (arith, bound-is (c .before .before .before .before .before))
-
-mul-worth : tie.Need-mul-worth Inv-loop μ-loop
-mul-worth c = omega (arith, fits c)
-
-add-j : tie.Need-add-j Inv-loop μ-loop
-add-j c = search needs
+add-sum-2 : tie.Need-add-sum-2 Inv-loop μ-loop
+add-sum-2 c = omega (arith, fits c)
 
 loop-less : tie.Need-loop-less Inv-loop μ-loop
 loop-less c = search needs
@@ -122,11 +118,9 @@ returns : tie.Need-returns Inv-loop μ-loop
 returns c =
     let start = c .before .before .before .before .before .before .before in
     let a = start .args in
-    let l = c .before .loop in
-    let e : l .j ≡ variables (a .policy .now) = omega arith in (
-      rw (← e) (l .inv .1 .1),
-      carrying-fits (a .policy .now) (spread (a .part .now) (a .first) (a .step)) (entryOf (a .values .now)) (start .pre .2 .most) (start .pre .0) (l .j) (l .worth) (l .sum) (omega arith) (l .inv .1) .0,
-    )
+    let loop = c .before .loop in
+    let e = carrying-done (a .policy .now) (changeAt (a .part .now) (a .first) (a .step)) (entryOf (a .values .now)) (loop .j) (loop .sum) (omega (arith, c .loop-test .left)) (loop .inv .1) in
+    (e, rw e (carried-low (a .policy .now) (changeAt (a .part .now) (a .first) (a .step)) (entryOf (a .values .now)) (start .pre .0) (start .pre .2 .most)))
 
 pub carried-out-spec : {M : Type 1} → statement M
 carried-out-spec =
@@ -136,6 +130,7 @@ carried-out-spec =
     μ-loop
     variables-requires
     loop-holds
+    sub-j
     mul-most
     shared-slice-read-most
     mul-wide
@@ -145,11 +140,9 @@ carried-out-spec =
     mul-changed
     shared-slice-read-changed
     changed-requires
-    mul-sum
     add-sum
-    add-worth
-    mul-worth
-    add-j
+    mul-sum
+    add-sum-2
     loop-less
     loop-again
     returns)

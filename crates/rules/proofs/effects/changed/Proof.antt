@@ -3,7 +3,7 @@ use native.Mathlib.Omega.{arith}
 use native.Mathlib.Numerals.{add-one}
 use borrow.Author.Tests.{lt-ltb, le-ltb}
 use borrow.Author.Needs.{needs}
-use Rattle.rules.proofs.Valuations.{added, reset}
+use Rattle.rules.proofs.Changes.{added, reset}
 use Rattle.rules.proofs.effects.changed.Statement.{statement}
 use Rattle.rules.proofs.effects.changed.Tie as tie
 

@@ -1,23 +1,21 @@
--- `rules::effects::enabled` meets its contract. The loop's invariant: the tests of every variable before j pass.
+-- `rules::effects::enabled` meets its contract. The loop's invariant: `pass` says whether the tests of every variable before j pass.
 use mathlib.Core.Path.{_≡_}
-use mathlib.Core.Bool.{true}
 use Prim.Native.Nat.{_≤_, _-_}
 use native.Mathlib.Omega.{arith}
 use borrow.Author.Needs.{needs}
 use Rattle.automaton.specs.Below.{allBelow}
-use Rattle.automaton.proofs.Loops.{all-more, all-fails, all-done}
+use Rattle.automaton.proofs.Loops.{all-next}
 use Rattle.definitions.specs.Policy.{variables}
-use Rattle.definitions.proofs.Tests.{failed, held}
-use Rattle.rules.specs.Tables.{entryOf}
-use Rattle.rules.specs.Rules.{testPassesBy}
+use Rattle.rules.specs.Arrays.{entryOf}
+use Rattle.rules.specs.RuleSets.{testPassesBy}
 use Rattle.rules.proofs.effects.enabled.Statement.{statement}
 use Rattle.rules.proofs.effects.enabled.Tie as tie
 
 abbrev Inv-loop : tie.InvT-loop
-Inv-loop policy rule values n j₀ j = (j ≤ n) × (allBelow j (testPassesBy policy rule (entryOf values)) ≡ true)
+Inv-loop policy rule values n pass₀ j₀ pass j = (j ≤ n) × (pass ≡ allBelow j (testPassesBy policy rule (entryOf values)))
 
 abbrev μ-loop : tie.MeasureT-loop
-μ-loop policy rule values n j₀ j = n - j
+μ-loop policy rule values n pass₀ j₀ pass j = n - j
 
 variables-requires : tie.Need-variables-requires Inv-loop μ-loop
 variables-requires c κs = search needs
@@ -34,14 +32,6 @@ shared-slice-read-test-passes c = search needs
 test-passes-requires : tie.Need-test-passes-requires Inv-loop μ-loop
 test-passes-requires c κs = search needs
 
-returns : tie.Need-returns Inv-loop μ-loop
-returns c =
-    let start = c .before .before .before .before .before .before .before .before .before in
-    let loop = c .before .before .before .before .loop in
-    let a = start .args in
-    all-fails (testPassesBy (a .policy .now) (a .rule .now) (entryOf (a .values .now))) (variables (a .policy .now)) (loop .j) (omega arith)
-    (failed _ _ (c .before .test-passes .ensures) (c .if1 .taken))
-
 add-j : tie.Need-add-j Inv-loop μ-loop
 add-j c = search needs
 
@@ -50,19 +40,14 @@ loop-less c = search needs
 
 loop-again : tie.Need-loop-again Inv-loop μ-loop
 loop-again c =
-    let start = c .before .before .before .before .before .before .before .before .before in
-    let loop = c .before .before .before .before .loop in
-    let a = start .args in (
-      omega arith,
-      all-more (testPassesBy (a .policy .now) (a .rule .now) (entryOf (a .values .now))) (loop .j) (loop .inv .1)
-          (held _ _ (c .before .test-passes .ensures) (c .if1 .left)),
-    )
+    let loop = c .before .before .before .loop in
+    let a = c .before .before .before .before .before .before .before .before .args in
+    (omega arith, all-next (testPassesBy (a .policy .now) (a .rule .now) (entryOf (a .values .now))) (loop .j) (loop .pass) (c .test-passes .result) (loop .inv .1) (c .test-passes .ensures))
 
-returns-2 : tie.Need-returns-2 Inv-loop μ-loop
-returns-2 c =
-    let start = c .before .before .before .before .before .before in
-    let a = start .args in
-    all-done (testPassesBy (a .policy .now) (a .rule .now) (entryOf (a .values .now))) (variables (a .policy .now)) (c .before .loop .j) (omega arith) (c .before .loop .inv .1)
+returns : tie.Need-returns Inv-loop μ-loop
+returns c =
+    let e : c .before .loop .j ≡ variables (c .before .before .before .before .before .before .args .policy .now) = omega arith in
+    rw (← e) (c .before .loop .inv .1)
 
 pub enabled-spec : {M : Type 1} → statement M
 enabled-spec =
@@ -75,8 +60,7 @@ enabled-spec =
     mul-test-passes
     shared-slice-read-test-passes
     test-passes-requires
-    returns
     add-j
     loop-less
     loop-again
-    returns-2)
+    returns)

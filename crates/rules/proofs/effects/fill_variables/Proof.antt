@@ -1,19 +1,19 @@
--- `rules::effects::fill_variables` meets its contract. The loop's invariant: the first j entries are filled, and `rest` is what is left of v.
+-- `rules::effects::fill_variables` meets its contract. The loop's invariant: the first j entries are filled, and `rest` is what remains of v.
 use mathlib.Core.Path.{_≡_}
-use Prim.Native.Nat.{_≤_, _<_, _-_, _+_, _/_, _%_}
+use Prim.Native.Nat.{_≤_, _<_, _-_, _+_, _/_}
 use native.Mathlib.Omega.{arith}
 use lib.ListN.{getD}
 use borrow.Author.Needs.{needs}
+use Rattle.automaton.proofs.Filling.{Filled, filled-begun, filled-turn}
 use Rattle.definitions.specs.Policy.{variables}
 use Rattle.definitions.specs.Valuation.{bound, worth, valuesOf, variableIn}
-use Rattle.rules.specs.Tables.{Filled}
-use Rattle.rules.proofs.Tables.{filled-more}
-use Rattle.rules.proofs.Valuations.{rest-more, variable-is, bound-small}
+use Rattle.rules.proofs.Arrays.{filled-tabled}
+use Rattle.rules.proofs.Changes.{rest-more, variable-is, bound-small}
 use Rattle.rules.proofs.effects.fill_variables.Statement.{statement}
 use Rattle.rules.proofs.effects.fill_variables.Tie as tie
 
 abbrev Inv-loop : tie.InvT-loop
-Inv-loop policy bounds v values₀ n rest₀ j₀ values rest j = (j ≤ n) × (rest ≡ v / worth policy j) × Filled 0 0 j (variableIn policy v) values₀ values
+Inv-loop policy bounds v values₀ n rest₀ j₀ values rest j = (j ≤ n) × (rest ≡ v / worth policy j) × Filled (variableIn policy v) values₀ j values
 
 abbrev μ-loop : tie.MeasureT-loop
 μ-loop policy bounds v values₀ n rest₀ j₀ values rest j = n - j
@@ -36,7 +36,7 @@ variables-requires : tie.Need-variables-requires Inv-loop μ-loop
 variables-requires c κs = search needs
 
 loop-holds : tie.Need-loop-holds Inv-loop μ-loop
-loop-holds c = search needs
+loop-holds c = (search needs, search needs, filled-begun _ _)
 
 mul-count : tie.Need-mul-count Inv-loop μ-loop
 mul-count c = search needs
@@ -69,13 +69,12 @@ loop-again : tie.Need-loop-again Inv-loop μ-loop
 loop-again c =
     let start = c .before .before .before .before .before .before .before in
     let loop = c .before .before .loop in
-    let a = start .args in
-    let most = getD (a .bounds .now) (loop .j) 0 in
-    let e : most + 1 ≡ valuesOf (a .policy .now) (loop .j) = omega (arith, bound-is (c .before)) in (
+    let p = start .args .policy .now in
+    let most = getD (start .args .bounds .now) (loop .j) 0 in
+    let e : most + 1 ≡ valuesOf p (loop .j) = omega (arith, bound-is (c .before)) in (
       omega arith,
-      rest-more (a .policy .now) (a .v) (loop .j) (loop .rest) (most + 1) (loop .inv .1) e,
-      filled-more 0 0 (loop .j) (variableIn (a .policy .now) (a .v)) (a .values .now) (loop .values) (loop .rest % (most + 1)) (omega arith) (omega arith) (loop .inv .2)
-          (variable-is (a .policy .now) (a .v) (loop .j) (loop .rest) (most + 1) (loop .inv .1) e),
+      rest-more p (start .args .v) (loop .j) (loop .rest) (most + 1) (loop .inv .1) e,
+      filled-turn (loop .inv .2) (omega arith) (variable-is p (start .args .v) (loop .j) (loop .rest) (most + 1) (loop .inv .1) e),
     )
 
 same-length : tie.Need-same-length Inv-loop μ-loop
@@ -84,8 +83,7 @@ same-length c = search needs
 returns : tie.Need-returns Inv-loop μ-loop
 returns c =
     let start = c .before .before .before .before .before .before in
-    let e : c .before .loop .j ≡ variables (start .args .policy .now) = omega arith in
-    rw (← e) (c .before .loop .inv .2)
+    filled-tabled (variables (start .args .policy .now)) (c .before .loop .inv .2) (omega arith)
 
 pub fill-variables-spec : {M : Type 1} → statement M
 fill-variables-spec =
