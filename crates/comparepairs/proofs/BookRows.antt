@@ -4,7 +4,7 @@ use mathlib.Core.List.{List}
 use Prim.Native.Nat.{ℕ, _+_, _-_, _*_, _≤_, _<_}
 use native.Mathlib.Omega.{arith}
 use lib.ListN.{length, getD, drop, length-drop}
-use lib.Seq.{getD-take, getD-drop, length-take-le}
+use lib.Seq.{getD-take, length-take-le}
 use Rattle.automaton.specs.Machine.{step}
 use Rattle.definitions.specs.Book.{width, states, entry, bookMachine}
 use Rattle.definitions.specs.Checked.{BookPassed}
@@ -20,7 +20,7 @@ module _ (b : List ℕ) (ok : BookPassed b) (s : ℕ) (some : 1 ≤ s) (most : s
   pub row-step : (c : ℕ) → c < width b → step (bookMachine b) s c ≡ getD (rowOf b s) c 0
   row-step c l =
       step-is-entry b s c some l
-      ∙ sym (getD-take (width b) (drop (12 + (s - 1) * width b) b) c 0 l ∙ getD-drop (12 + (s - 1) * width b) b c 0)
+      ∙ sym (getD-take (width b) (drop (12 + (s - 1) * width b) b) c 0 l)
 
   pub row-most : (c : ℕ) → c < width b → getD (rowOf b s) c 0 ≤ states b
   row-most c l = omega (arith, step-inside b ok s c, row-step c l)

@@ -1,4 +1,4 @@
--- What acceptance gives: the plain facts about a policy that is not turned down, and about a book that the checks pass, for which they are also enough.
+-- What acceptance gives: the plain facts about a policy that is not refused, and about a book that the checks pass, for which they are also enough.
 use mathlib.Core.Path.{_≡_, refl}
 use mathlib.Core.Bool.{true, _&&_, _||_}
 use mathlib.Core.Logic.{_↔_, _⊎_, inl, inr}
@@ -17,13 +17,13 @@ use Rattle.definitions.specs.Valuation.{valuations}
 use Rattle.definitions.specs.Book as B
 use Rattle.definitions.specs.Refusal.{rangesHold, countInRange, countsHold, rulePasses, allRules, maskHolds, ruleMasksHold, masksHold, testHolds, ruleHolds, eventChangeHolds, eventHolds, valuesHold, fileChecks, fileRefusal, situations, row11, policyRefusal, countHolds, headerHolds, layoutHolds, entryHolds, rowHolds, entriesHold, bookChecks, bookRefusal}
 use Rattle.definitions.proofs.Tests.{both-true, judge-zero, then-judge-zero, within-true, mark-true, version-true}
-use Rattle.definitions.proofs.CheckLists.{PassedBefore, testOf, row-passes, rows-from}
+use Rattle.definitions.proofs.CheckLists.{PassedBefore, rowTest, row-passes, rows-from}
 use Rattle.definitions.proofs.Radix.{product-some}
 use Rattle.definitions.proofs.Requests.{some-request}
 use Rattle.definitions.proofs.Valuations.{some-valuation}
 use Rattle.definitions.specs.Checked.{BookHeader, BookLayout, BookPassed}
 
--- a policy file that rows 2 to 10 do not turn down
+-- a policy file that rows 2 to 10 do not refuse
 pub record FileAccepted (p : List ℕ) : Type 0 where
   pub long : 9 ≤ length p
   pub mark : (byte p 0 ≡ 0x50) × (byte p 1 ≡ 0x4F) × (byte p 2 ≡ 0x4C)
@@ -95,7 +95,7 @@ module _ (p : List ℕ) where
   pub file-accepted : fileRefusal p ≡ 0 → FileAccepted p
   unfolding fileRefusal
   file-accepted e =
-      let passes : (n : ℕ) → testOf n fileChecks p ≡ true = λ n. row-passes p n fileChecks refl e in
+      let passes : (n : ℕ) → rowTest n fileChecks p ≡ true = λ n. row-passes p n fileChecks refl e in
       let ranges = ranges-true (passes 5) in
       let counts = counts-true (passes 7) in
       record {
@@ -221,7 +221,7 @@ module _ (b : List ℕ) where
   passed : bookRefusal b ≡ 0 → BookPassed b
   unfolding bookRefusal
   passed e =
-      let passes : (n : ℕ) → testOf n bookChecks b ≡ true = λ n. row-passes b n bookChecks refl e in
+      let passes : (n : ℕ) → rowTest n bookChecks b ≡ true = λ n. row-passes b n bookChecks refl e in
       let head = and-true _ _ (passes 12) in
       let begins = and-true _ _ (head .0) in
       record {

@@ -10,9 +10,9 @@ use Rattle.automaton.proofs.Counting.{and-true}
 use Rattle.definitions.specs.Answer.{judge, Check, row, refusalBy}
 
 -- the test of row n; it passes where there is no such row
-abbrev pub testOf : ℕ → List Check → List ℕ → Bool
-testOf n [] x = true
-testOf n (row m passes ∷ later) x = let rest = testOf n later x in cond (eqb n m) (passes x) rest
+abbrev pub rowTest : ℕ → List Check → List ℕ → Bool
+rowTest n [] x = true
+rowTest n (row m passes ∷ later) x = let rest = rowTest n later x in cond (eqb n m) (passes x) rest
 
 -- row n and those after it
 abbrev pub rowsFrom : ℕ → List Check → List Check
@@ -48,24 +48,24 @@ module _ (x : List ℕ) where
       go true rest h = (h, refl)
       go false rest h = let r = rest h in (r .0 .0, rw (r .0 .1) (r .1))
 
-  stops : (n : ℕ) (rows : List Check) → testOf n rows x ≡ false → refusalBy (rowsFrom n rows) x ≡ n
+  stops : (n : ℕ) (rows : List Check) → rowTest n rows x ≡ false → refusalBy (rowsFrom n rows) x ≡ n
   stops n [] e = absurd (true≢false e)
   stops n (row m passes ∷ later) e = go (eqb n m) refl (stops n later) e
     where
-      go : (b : Bool) → eqb n m ≡ b → (testOf n later x ≡ false → refusalBy (rowsFrom n later) x ≡ n)
-          → cond b (passes x) (testOf n later x) ≡ false → refusalBy (cond b (row m passes ∷ later) (rowsFrom n later)) x ≡ n
+      go : (b : Bool) → eqb n m ≡ b → (rowTest n later x ≡ false → refusalBy (rowsFrom n later) x ≡ n)
+          → cond b (passes x) (rowTest n later x) ≡ false → refusalBy (cond b (row m passes ∷ later) (rowsFrom n later)) x ≡ n
       go true same rest e = rw e (sym (eqb-true n m same))
       go false same rest e = rest e
 
   -- where no row refuses, every test passes
-  pub row-passes : (n : ℕ) (rows : List Check) → numbersHold (leb 1) rows ≡ true → refusalBy rows x ≡ 0 → testOf n rows x ≡ true
+  pub row-passes : (n : ℕ) (rows : List Check) → numbersHold (leb 1) rows ≡ true → refusalBy rows x ≡ 0 → rowTest n rows x ≡ true
   row-passes n [] some e = refl
   row-passes n (row m passes ∷ later) some e =
       let numbers = and-true _ _ some in
       go (passes x) refl (eqb n m) (leb-true 1 m (numbers .0)) (row-passes n later (numbers .1)) e
     where
-      go : (b : Bool) → passes x ≡ b → (same : Bool) → 1 ≤ m → (refusalBy later x ≡ 0 → testOf n later x ≡ true)
-          → judge m b (refusalBy later x) ≡ 0 → cond same (passes x) (testOf n later x) ≡ true
+      go : (b : Bool) → passes x ≡ b → (same : Bool) → 1 ≤ m → (refusalBy later x ≡ 0 → rowTest n later x ≡ true)
+          → judge m b (refusalBy later x) ≡ 0 → cond same (passes x) (rowTest n later x) ≡ true
       go true is true l rest e = is
       go true is false l rest e = rest e
       go false is same l rest e = absurd (omega arith)
@@ -86,5 +86,5 @@ module _ {n : ℕ} {rows : List Check} {x : List ℕ} (before : PassedBefore n r
   rows-from = decided x n rows Unit (before .passed) .1
 
   -- and where its test fails, its number is returned
-  pub row-refuses : testOf n rows x ≡ false → n ≡ refusalBy rows x
+  pub row-refuses : rowTest n rows x ≡ false → n ≡ refusalBy rows x
   row-refuses e = sym (rows-from ∙ stops x n rows e)

@@ -1,4 +1,4 @@
--- What the tests of the byte formats mean, when rows that are judged in order turn nothing down, and when the last of them turns down.
+-- What the tests of the byte formats mean, when rows that are judged in order refuse nothing, and when the last of them refuses.
 use mathlib.Core.Path.{_≡_, refl, sym, _∙_}
 use mathlib.Core.Bool.{Bool, true, false, true≢false, false≢true, not, _&&_}
 use mathlib.Core.Logic.{_↔_}

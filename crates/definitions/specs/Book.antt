@@ -37,12 +37,12 @@ abbrev pub states : List ℕ → ℕ
 states b = byte b 11
 
 -- row s and what is after it
-abbrev pub row : List ℕ → ℕ → List ℕ
-row b s = drop (12 + (s - 1) * width b) b
+abbrev pub bookRow : List ℕ → ℕ → List ℕ
+bookRow b s = drop (12 + (s - 1) * width b) b
 
 -- "Entry c of row s is the state after code c, 0 if not possible"
 abbrev pub entry : List ℕ → ℕ → ℕ → ℕ
-entry b s c = byte (row b s) c
+entry b s c = byte (bookRow b s) c
 
 -- "A history is possible in a book if its codes, taken one after another from state 1, meet no entry 0"
 abbrev pub bookMachine : List ℕ → Machine

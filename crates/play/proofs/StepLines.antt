@@ -34,7 +34,7 @@ lines-last b s (d ∷ cs) c =
     ∙ sym (append-assoc (answerLine b (stepRefusal b s d) (stepState b s d)) (stepLines b (stepState b s d) cs) (answerLine b (stepRefusal b (walkState b (stepState b s d) cs) c) (walkState b (stepState b s d) (cs ++ (c ∷ [])))))
 
 -- ---- the loop's invariant: the lines of the first i steps are put, each in at most 512 bytes, and the state is the one that these steps lead to
-pub record Turn (b : List ℕ) (start : ℕ) (cs before : List ℕ) (at i state next : ℕ) (out : List ℕ) : Type 0 where
+pub record StepsPut (b : List ℕ) (start : ℕ) (cs before : List ℕ) (at i state next : ℕ) (out : List ℕ) : Type 0 where
   pub within : i ≤ length cs
   pub led : state ≡ walkState b start (take i cs)
   pub stands : Stands b state
@@ -49,16 +49,16 @@ step-stands b s c h =
     }
 
 module _ (b : List ℕ) (start : ℕ) (cs before : List ℕ) (at : ℕ) where
-  pub begun : Stands b start → Turn b start cs before at 0 start at before
+  pub begun : Stands b start → StepsPut b start cs before at 0 start at before
   begun h = record { within = omega arith; led = refl; stands = h; put = nothing-put before at; short = omega arith }
 
-  module _ {i state next : ℕ} {out : List ℕ} (t : Turn b start cs before at i state next out) where
+  module _ {i state next : ℕ} {out : List ℕ} (t : StepsPut b start cs before at i state next out) where
     pub there-stands : (code there : ℕ) → there ≡ stepState b state code → Stands b there
     there-stands code there e = rw e (step-stands b state code (t .stands))
 
     -- a step: its code, the number that it answers, and the state there
     pub more : (code number there : ℕ) {after : List ℕ} {end : ℕ} → i < length cs → code ≡ getD cs i 0 → number ≡ stepRefusal b state code → there ≡ stepState b state code
-        → Put out next (answerLine b number there) after end → end ≤ next + 512 → Turn b start cs before at (i + 1) there end after
+        → Put out next (answerLine b number there) after end → end ≤ next + 512 → StepsPut b start cs before at (i + 1) there end after
     more code number there {after} {end} l ec en et p m =
         record {
           within = omega arith;

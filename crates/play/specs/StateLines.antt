@@ -19,7 +19,7 @@ tellingWord accept = 97 ∷ 99 ∷ 99 ∷ 101 ∷ 112 ∷ 116 ∷ []
 tellingWord reject = 114 ∷ 101 ∷ 106 ∷ 101 ∷ 99 ∷ 116 ∷ []
 tellingWord both = 98 ∷ 111 ∷ 116 ∷ 104 ∷ []
 
--- the word after a blank; of a call that was turned down nothing is told
+-- the word after a blank; of a refused call nothing is told
 abbrev pub tellingText : Answer Telling → List ℕ
 tellingText (refused number) = []
 tellingText (given told) = blank ∷ tellingWord told

@@ -1,4 +1,4 @@
 -- Laws that belong to no one function.
-pub mod Small
-pub mod Told
-pub mod Within
+pub mod RefusalBounds
+pub mod PackedValues
+pub mod AnswerBounds

@@ -12,7 +12,7 @@ use packing::pack_build;
 use packing::pack_compare;
 use packing::pack_verdict;
 
-// Builds the book of a policy. The value is the book's length. The book goes to the front of the buffer; the bytes after it stay, and on a refusal all of them.
+// Builds the book of a policy. The value is the book's length. The book goes to the front of the buffer; the bytes after it are unchanged, and on a refusal all of them.
 #[no_mangle]
 pub extern "C" fn policybook_build(policy: &[u8], book: &mut [u8]) -> u64
     ensures { λ r. ⌜ r ≡ packed bookLength (buildAnswer (now (policy .entry)) (now (book .entry))) ⌝ }
@@ -22,7 +22,7 @@ pub extern "C" fn policybook_build(policy: &[u8], book: &mut [u8]) -> u64
 }
 
 // The findings on a book. The value tells conflict, missing and blocked, from bits 0, 16 and 32 on. The history of each that is found goes to the front of its
-// buffer; the bytes after it stay, and so does all of the buffer of a finding that is none, and all of each on a refusal.
+// buffer; the bytes after it are unchanged, and so is all of the buffer of a finding that is none, and all of each on a refusal.
 #[no_mangle]
 pub extern "C" fn policybook_verdict(
     book: &[u8],
@@ -38,7 +38,7 @@ pub extern "C" fn policybook_verdict(
 }
 
 // Compares two books. The value is the length of the earliest history that is possible in just one, which goes to the front of the buffer, and 0 where the
-// same histories are possible in both. The bytes after the history stay, and on a refusal or on same all of them.
+// same histories are possible in both. The bytes after the history are unchanged, and on a refusal or on same all of them.
 #[no_mangle]
 pub extern "C" fn policybook_compare(first: &[u8], second: &[u8], history: &mut [u8]) -> u64
     ensures { λ r. ⌜ r ≡ packed historyLength (compareAnswer (now (first .entry)) (now (second .entry)) (now (history .entry))) ⌝ }

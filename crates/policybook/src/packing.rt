@@ -1,4 +1,4 @@
-// Answers packed into one number. A history's length is told, and the contract holds for every buffer that has room for that history.
+// Answers packed into one number. A history is packed as its length, and the contract holds for every buffer that has room for that history.
 ghost use mathlib.Core.Path.{_≡_};
 ghost use mathlib.Core.List.{List};
 ghost use Prim.Native.Nat.{ℕ, _*_, _^_, _<_};
@@ -8,7 +8,7 @@ ghost use Rattle.verdict.specs.VerdictAnswer.{foundOf, blockedOf, judgedAnswer}
 ghost use Rattle.verdict.specs.AnswerBounds.{BlockedWithin, FindingWithin, FindingsWithin, JudgedWithin};
 ghost use Rattle.compare.specs.ComparedAnswer.{comparedAnswer};
 ghost use Rattle.policybook.specs.Packing.{packed, bookLength, blockedValue, foundValue, findingsValue, historyLength};
-ghost use Rattle.policybook.specs.Within.{BuiltWithin, ComparedWithin};
+ghost use Rattle.policybook.specs.AnswerBounds.{BuiltWithin, ComparedWithin};
 use build::Built;
 use compare::Compared;
 use verdict::Blocked;
@@ -16,7 +16,7 @@ use verdict::Finding;
 use verdict::Findings;
 use verdict::Judged;
 
-// The number for what build answers.
+// The number for what build returns.
 pub fn pack_build(built: Built) -> u64
     requires { ⌜ BuiltWithin 17284 built ⌝ }
     ensures { λ r. ⌜ r ≡ packed bookLength (builtAnswer built) ⌝ }
@@ -67,7 +67,7 @@ fn findings_value(findings: Findings) -> u64
     first + second + third
 }
 
-// The number for what verdict answers.
+// The number for what verdict returns.
 pub fn pack_verdict(judged: Judged) -> u64
     requires { ⌜ JudgedWithin 128 128 128 judged ⌝ }
     ensures { λ r. ⌜ ((x y z : List ℕ) → JudgedWithin (length x) (length y) (length z) judged → r ≡ packed findingsValue (judgedAnswer judged x y z)) ⌝ }
@@ -78,7 +78,7 @@ pub fn pack_verdict(judged: Judged) -> u64
     }
 }
 
-// The number for what compare answers.
+// The number for what compare returns.
 pub fn pack_compare(compared: Compared) -> u64
     requires { ⌜ ComparedWithin 256 compared ⌝ }
     ensures { λ r. ⌜ ((buffer : List ℕ) → ComparedWithin (length buffer) compared → r ≡ packed historyLength (comparedAnswer compared buffer)) ⌝ }

@@ -90,7 +90,8 @@ module _ (b : List ℕ) (p : BookPassed b) where
       go (yes k) (yes l) =
           let place : 12 + ((suc i - 1) * w + c) ≡ 12 + (suc i - 1) * w + c = omega arith in
           rows-step (drop 12 b) w book-rows (suc i) c (omega arith) (omega (arith, rows-are)) k
-          ∙ getD-drop 12 b ((suc i - 1) * w + c) 0 ∙ ap (byte b) place ∙ sym (step-is-entry b (suc i) c (omega arith) k)
+          ∙ getD-drop 12 b ((suc i - 1) * w + c) 0 ∙ ap (byte b) place ∙ sym (getD-drop (12 + (suc i - 1) * w) b c 0)
+          ∙ sym (step-is-entry b (suc i) c (omega arith) k)
       go (yes k) (no l) =
           rows-beyond (drop 12 b) w book-rows i c (omega (arith, rows-are)) ∙ sym (step-is-entry b (suc i) c (omega arith) k ∙ entry-past b p i c (omega arith))
 

@@ -7,13 +7,14 @@ use Rattle.explore.specs.SetImages.{imagesMachine}
 use Rattle.definitions.specs.Situation.{startSituation}
 use Rattle.explore.specs.Reaches.{Reaches}
 use Rattle.definitions.specs.Policy.{width}
+use Rattle.policy.specs.declared.shape.Shape.{Shape}
 use Rattle.definitions.specs.Valuation.{valuations}
 use Rattle.definitions.specs.Refusal.{situations}
 use lib.ListN.{length, replicate}
 use mathlib.Core.List.{List}
 use Prim.Native.Nat.{ℕ, _<_}
 use native.Mathlib.Omega.{arith}
-use mathlib.Core.Path.{_≡_}
+use mathlib.Core.Path.{_≡_, ap}
 use borrow.Author.Needs.{needs}
 use Rattle.build.proofs.build_in.Statement.{statement}
 use Rattle.build.proofs.build_in.Tie as tie
@@ -33,20 +34,20 @@ images-of c = c .before .before .before .before .before .before .before .fill-im
 
 reaches : (c : tie.After-explore)
     → Reaches (imagesMachine (images c) (valuations (policy c)) (width (policy c)) startSituation) (replicate 128 0) (start c .args .raw .now) (c .explore .result)
-    (c .explore .last .1 .1 .1 .0) (c .explore .last .1 .1 .1 .1 .0)
+    (c .explore .last .1 .1 .1 .1 .0) (c .explore .last .1 .1 .1 .1 .1 .0)
 reaches c = rw (c .before .before .before .before .before .before .before .before .before .of .ensures, c .before .before .before .before .start .ensures) at (c .explore .ensures)
 
-wide : (c : tie.After-explore) → c .before .before .before .before .before .before .before .before .before .of .result .width ≡ width (c .before .before .before .before .before .before .before .before .before .before .before .before .before .args .policy .now)
-wide c = rw (c .before .before .before .before .before .before .before .before .before .of .ensures)
+wide : (c : tie.After-explore) → c .before .before .before .before .before .before .before .before .before .of .result .width ≡ width (policy c)
+wide c = ap (λ (s : Shape). s .width) (c .before .before .before .before .before .before .before .before .before .of .ensures)
 
 over : (c : tie.After-explore) → c .explore .result ≡ 0 → 127 < length (situations (policy c))
 over c none = situations-over (policy c) (images c) (images-of c) (start c .pre .1 .1) (reaches c) none
 
-rows : (c : tie.After-explore) → (c .explore .result ≡ 0 → ⊥) → SituationRows (policy c) (c .explore .last .1 .1 .1 .1 .0) (c .explore .result)
+rows : (c : tie.After-explore) → (c .explore .result ≡ 0 → ⊥) → SituationRows (policy c) (c .explore .last .1 .1 .1 .1 .1 .0) (c .explore .result)
 rows c some = situation-rows (policy c) (images c) (images-of c) (start c .pre .1 .1) (reaches c) some
 
 of-requires : tie.Need-of-requires
-of-requires c κs = let p = c .before .before .before .before .before in has-passed (p .args .policy .now) (p .pre .0 .0)
+of-requires c κs = let p = c .before .before .before .before in has-passed (p .args .policy .now) (p .pre .0 .0)
 
 fill-images-requires : tie.Need-fill-images-requires
 fill-images-requires c κs =
@@ -65,7 +66,7 @@ explore-requires c κs =
     let p = c .before .before .before .before .before .before .before .before .before .before .before .before .before in
     let fits = images-fit (p .args .policy .now) (p .pre .0 .0) in
     rw (c .before .before .before .before .before .before .before .before .of .ensures) (
-      (valuations-low (p .args .policy .now) (p .pre .0 .0), width-low (p .args .policy .now) (p .pre .0 .0), omega (arith, c .before .before .before .before .before .before .fill-images .kept .1 .1 .0, p .pre .1 .0)),
+      (valuations-low (p .args .policy .now) (p .pre .0 .0), width-low (p .args .policy .now) (p .pre .0 .0), omega (arith, c .before .before .before .before .before .before .fill-images .kept .1 .1 .0, p .pre .1 .0), omega (arith, c .before .before .before .start .ensures)),
       (omega arith, p .pre .1 .1),
     )
 
@@ -102,7 +103,7 @@ returns-2 c =
     let a = p .args in
     let t = rows (c .before .before .before .before .before .before .before .before .before) (c .before .before .before .before .before .if1 .left) in
     let b = c .before .before .write-book .ensures in
-    build-given (a .policy .now) (a .book .now) (c .before .before .before .before .before .before .before .before .before .explore .last .1 .1 .1 .1 .0) (c .before .before .before .before .before .before .before .before .before .explore .result) (wide (c .before .before .before .before .before .before .before .before .before))
+    build-given (a .policy .now) (a .book .now) (c .before .before .before .before .before .before .before .before .before .explore .last .1 .1 .1 .1 .1 .0) (c .before .before .before .before .before .before .before .before .before .explore .result) (wide (c .before .before .before .before .before .before .before .before .before))
     (refused-by-none (a .policy .now) (a .book .now) (p .pre .0 .1) (p .pre .0 .0) (t .count)) (t .rows) (b .0) (b .1)
 
 pub build-in-spec : {M : Type 1} → statement M

@@ -1,4 +1,4 @@
--- `without` meets its contract: a part, or nothing where there is nothing left.
+-- `without` meets its contract: a part, or nothing where there are no more bytes.
 use mathlib.Core.Path.{sym, _∙_}
 use native.Mathlib.Omega.{arith}
 use lib.ListN.{length, drop-of-length-le}

@@ -3,13 +3,13 @@ use mathlib.Core.Path.{_≡_, refl, _∙_}
 use Prim.Native.Nat.{_-_}
 use native.Mathlib.Omega.{arith}
 use lib.ListN.{length}
-use Rattle.play.proofs.StepLines.{Turn, begun, there-stands, more, done}
+use Rattle.play.proofs.StepLines.{StepsPut, begun, there-stands, more, done}
 use borrow.Author.Needs.{needs}
 use Rattle.play.proofs.steps.put_steps.Statement.{statement}
 use Rattle.play.proofs.steps.put_steps.Tie as tie
 
 abbrev Inv-loop : tie.InvT-loop
-Inv-loop book start codes out₀ at state₀ next₀ i₀ out state next i = (length out ≡ length out₀) × Turn book start codes out₀ at i state next out
+Inv-loop book start codes out₀ at state₀ next₀ i₀ out state next i = (length out ≡ length out₀) × StepsPut book start codes out₀ at i state next out
 
 abbrev μ-loop : tie.MeasureT-loop
 μ-loop book start codes out₀ at state₀ next₀ i₀ out state next i = length codes - i

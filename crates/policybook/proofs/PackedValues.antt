@@ -14,7 +14,7 @@ use Rattle.definitions.specs.Verdict.{Found, conflict, missing, blocked, findin
 use Rattle.definitions.specs.Compare.{comparison, compareRefusal, compareAnswer}
 use Rattle.policybook.specs.Packing.{packed, bookLength, historyLength, blockedValue, foundValue, findingsValue}
 use Rattle.verdict.proofs.SmallFindings.{SmallFound, findings-small}
-use Rattle.policybook.proofs.Small.{build-refusal-small, verdict-refusal-small, compare-refusal-small}
+use Rattle.policybook.proofs.RefusalBounds.{build-refusal-small, verdict-refusal-small, compare-refusal-small}
 
 -- ---- the refusal and the value
 pub record Tells (refusal value told : ℕ) : Type 0 where
