@@ -14,9 +14,9 @@ use Rattle.automaton.specs.History.{History, Earlier, NotLater, Earliest
 use Rattle.automaton.specs.Machine.{Machine, step, after, isState, possible}
 use Rattle.automaton.specs.Explore.{Reached, numberIn, add, visit, unreached, startOf, reached, firstThat}
 use Rattle.automaton.proofs.Order.{tri, earlier-trans, earlier-append, earlier-code, not-later-trans, not-later-append}
-use Rattle.automaton.proofs.Machines.{step-within, possible-state}
-use Rattle.automaton.proofs.Counting.{below-suc}
-use Rattle.automaton.proofs.Exploring.{stateAt, historyAt, number-hit, Front, front-at, front-length, at-end, add-keeps, add-front, visit-front, reached-ends, Ended, Sound, reached-sound, reached-leads, reached-short}
+use Rattle.automaton.proofs.Machine.{step-within, possible-state}
+use Rattle.automaton.proofs.Below.{below-suc}
+use Rattle.automaton.proofs.Explore.{stateAt, historyAt, number-hit, Front, front-at, front-length, at-end, add-keeps, add-front, visit-front, reached-ends, Ended, Sound, reached-sound, reached-leads, reached-short}
 
 -- s is found, by a history that is not later than x
 abbrev pub FoundBy : List Reached → ℕ → History → Type 0

@@ -10,10 +10,10 @@ use Rattle.automaton.specs.History.{History}
 use Rattle.automaton.specs.Machine.{step, after, isState, possibleFrom, SameHistories, Alike}
 use Rattle.automaton.specs.Table.{entryIn, tabled}
 use Rattle.automaton.specs.Join.{classOf, classes, joinedBy, joined}
-use Rattle.automaton.proofs.Machines.{after-keeps, after-map-on, alike-step}
+use Rattle.automaton.proofs.Machine.{after-keeps, after-map-on, alike-step}
 use Rattle.automaton.proofs.WellFormed.{IsTable, step-inside, after-inside}
-use Rattle.automaton.proofs.Refining.{class-of-start}
-use Rattle.automaton.proofs.Settled.{classes-named, classes-alike}
+use Rattle.automaton.proofs.AlikeWithin.{class-of-start}
+use Rattle.automaton.proofs.StableClasses.{classes-named, classes-alike}
 
 -- a is the number of a class of a table, or 0
 abbrev pub IsClass : List (List ℕ) → ℕ → Type 0

@@ -10,8 +10,8 @@ use Rattle.automaton.specs.History.{History}
 use Rattle.automaton.specs.Machine.{Machine, step, isState}
 use Rattle.automaton.specs.Explore.{Reached, isAt, numberIn, add, visit}
 use Rattle.automaton.specs.Table.{rowOf}
-use Rattle.automaton.proofs.Counting.{below-suc, place-append, place-end}
-use Rattle.automaton.proofs.Exploring.{Front, add-front}
+use Rattle.automaton.proofs.Below.{below-suc, place-append, place-end}
+use Rattle.automaton.proofs.Explore.{Front, add-front}
 use Rattle.automaton.proofs.Congruence.{list-below-same}
 
 -- ---- a state keeps its number

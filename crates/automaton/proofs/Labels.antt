@@ -8,9 +8,9 @@ use native.Mathlib.Omega.{arith}
 use lib.Dec.{T, eqb}
 use borrow.Author.Tests.{eqb-true, eqb-false, eq-eqb, ne-eqb}
 use Rattle.automaton.specs.Machine.{inOne}
-use Rattle.automaton.proofs.Machines.{in-one-cotrans, in-one-sym, in-one-self}
+use Rattle.automaton.proofs.Machine.{in-one-cotrans, in-one-sym, in-one-self}
 use Rattle.automaton.specs.Below.{countBelow}
-use Rattle.automaton.proofs.Counting.{count-below-grows, count-below-some}
+use Rattle.automaton.proofs.Below.{count-below-grows, count-below-some}
 use Rattle.automaton.specs.Labels.{Among, Rooted, ownLabel, labels, Divides}
 
 -- each number that has the label of y gets the label of x, and the others keep theirs

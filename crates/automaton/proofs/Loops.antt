@@ -9,7 +9,7 @@ use native.Mathlib.Numerals.{add-one}
 use lib.ListN.{length, take, drop, length-drop}
 use lib.Seq.{take-all}
 use Rattle.automaton.specs.Below.{allBelow, foldBelow}
-use Rattle.automaton.proofs.Counting.{all-below-at}
+use Rattle.automaton.proofs.Below.{all-below-at}
 
 module _ (f : ℕ → Bool) where
   -- one number more

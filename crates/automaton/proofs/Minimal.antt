@@ -13,12 +13,12 @@ use Rattle.automaton.specs.Explore.{reached}
 use Rattle.automaton.specs.Table.{table, tabled}
 use Rattle.automaton.specs.Join.{joined, minimal}
 use Rattle.automaton.proofs.Numbered.{Numbered}
-use Rattle.automaton.proofs.Machines.{state-is, after-append}
+use Rattle.automaton.proofs.Machine.{state-is, after-append}
 use Rattle.automaton.proofs.WellFormed.{IsTable, after-inside}
-use Rattle.automaton.proofs.Exploring.{reached-few}
+use Rattle.automaton.proofs.Explore.{reached-few}
 use Rattle.automaton.proofs.Joined.{IsClass, joined-step-class, joined-after-class, joined-start, joined-possible, joined-distinct}
 use Rattle.automaton.proofs.Tidy.{TidyRows, tidy-rows-unique}
-use Rattle.automaton.proofs.Tables.{table-length, table-is-table, table-histories, table-numbered, table-tidy}
+use Rattle.automaton.proofs.Table.{table-length, table-is-table, table-histories, table-numbered, table-tidy}
 
 -- a tidy table of width w with the histories of m, its states numbered by their earliest histories
 pub record TidyTableOf (w : ℕ) (m : Machine) (rows : List (List ℕ)) : Type 0 where

@@ -7,8 +7,8 @@ use Prim.Native.Nat.{ℕ, zero, suc, _≤_, _<_}
 use native.Mathlib.Omega.{arith}
 use lib.ListN.{length, length-append}
 use Rattle.automaton.specs.History.{History}
-use Rattle.automaton.proofs.Counting.{below-suc}
-use Rattle.automaton.specs.Parents.{climb, trail, Falls}
+use Rattle.automaton.proofs.Below.{below-suc}
+use Rattle.automaton.specs.Parents.{climb, trail, EarlierParents}
 
 -- x is stored at place m, and the places before are as they were
 pub record Stored (m x : ℕ) (old new : ℕ → ℕ) : Type 0 where
@@ -16,7 +16,7 @@ pub record Stored (m x : ℕ) (old new : ℕ → ℕ) : Type 0 where
   pub last : new m ≡ x
 
 -- with parents and codes that agree below m the histories agree, whatever the fuel, if it is enough
-module _ (m : ℕ) (parent code parent′ code′ : ℕ → ℕ) (falls : Falls m parent) (same-parent : (k : ℕ) → k < m → parent′ k ≡ parent k)
+module _ (m : ℕ) (parent code parent′ code′ : ℕ → ℕ) (falls : EarlierParents m parent) (same-parent : (k : ℕ) → k < m → parent′ k ≡ parent k)
     (same-code : (k : ℕ) → k < m → code′ k ≡ code k) where
   climb-same : (f g k : ℕ) → k < f → k < g → k < m → climb parent′ code′ f k ≡ climb parent code g k
   climb-same zero g k p q l = absurd (omega arith)
@@ -31,7 +31,7 @@ pub trail-start : (parent code : ℕ → ℕ) → trail parent code 0 ≡ []
 unfolding trail
 trail-start parent code = refl
 
-module _ (m : ℕ) (parent code : ℕ → ℕ) (falls : Falls m parent) where
+module _ (m : ℕ) (parent code : ℕ → ℕ) (falls : EarlierParents m parent) where
   pub trail-step : (k : ℕ) → suc k < m → trail parent code (suc k) ≡ trail parent code (parent (suc k)) ++ (code (suc k) ∷ [])
   unfolding trail
   trail-step k l =
@@ -52,13 +52,13 @@ module _ (m : ℕ) (parent code : ℕ → ℕ) (falls : Falls m parent) where
           rw length-append (omega (arith, go fuel (parent (suc k)) (omega arith) (omega arith)))
 
 -- place m is stored, with parent i and code c
-module _ (m : ℕ) (parent code : ℕ → ℕ) (falls : Falls m parent) (i c : ℕ) (parent′ code′ : ℕ → ℕ)
+module _ (m : ℕ) (parent code : ℕ → ℕ) (falls : EarlierParents m parent) (i c : ℕ) (parent′ code′ : ℕ → ℕ)
     (P : Stored m i parent parent′) (C : Stored m c code code′) where
   pub trail-same : (k : ℕ) → k < m → trail parent′ code′ k ≡ trail parent code k
   unfolding trail
   trail-same k l = climb-same m parent code parent′ code′ falls (P .same) (C .same) (suc k) (suc k) k (omega arith) (omega arith) l
 
-  pub falls-stored : i < m → Falls (suc m) parent′
+  pub falls-stored : i < m → EarlierParents (suc m) parent′
   falls-stored l k b = go (below-suc (suc k) m b)
     where
       go : (suc k < m) ⊎ (suc k ≡ m) → parent′ (suc k) ≤ k

@@ -15,11 +15,11 @@ use Rattle.automaton.specs.Table.{entryIn, tabled}
 use Rattle.automaton.specs.Join.{classOf, classes, joined, minimal}
 use Rattle.automaton.specs.Ranks.{firsts, rank, classNumber, rankedRow, ranked}
 use Rattle.automaton.proofs.Order.{tri}
-use Rattle.automaton.proofs.Counting.{below-suc}
-use Rattle.automaton.proofs.Machines.{is-state, after-map-on}
+use Rattle.automaton.proofs.Below.{below-suc}
+use Rattle.automaton.proofs.Machine.{is-state, after-map-on}
 use Rattle.automaton.proofs.WellFormed.{IsTable, getD-map-within, entry-beyond, step-entry, step-inside}
 use Rattle.automaton.proofs.Joined.{IsClass, joined-by-step, class-is-class, joined-step-class, joined-after-class, joined-step, joined-start, joined-possible, joined-distinct}
-use Rattle.automaton.proofs.Settled.{classes-named}
+use Rattle.automaton.proofs.StableClasses.{classes-named}
 use Rattle.automaton.proofs.Tidy.{TidyRows, tidy-rows-unique}
 use Rattle.automaton.proofs.Minimal.{minimal-tidy-table}
 

@@ -9,8 +9,8 @@ use native.Mathlib.Decide.{decLt}
 use lib.ListN.{length}
 use Rattle.automaton.specs.Machine.{Machine, after, isState, DistinctStates}
 use Rattle.automaton.specs.Explore.{Reached, numberIn, reached}
-use Rattle.automaton.proofs.Counting.{distinct-below}
-use Rattle.automaton.proofs.Exploring.{stateAt, historyAt, Sound, sound-apart, reached-sound, reached-leads}
+use Rattle.automaton.proofs.Below.{distinct-below}
+use Rattle.automaton.proofs.Explore.{stateAt, historyAt, Sound, sound-apart, reached-sound, reached-leads}
 use Rattle.automaton.proofs.Earliest.{FoundBy, reached-covers}
 
 module _ (m : Machine) (most : ℕ) (begins : isState (m .start) ≡ true) where

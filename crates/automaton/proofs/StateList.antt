@@ -7,14 +7,14 @@ use native.Mathlib.Omega.{arith}
 use lib.Dec.{eqb}
 use lib.ListN.{length, getD, length-append, length-map}
 use borrow.Author.Tests.{eq-eqb}
-use Rattle.automaton.specs.Below.{oneOn, placeOf}
+use Rattle.automaton.specs.Below.{sucPositive, placeOf}
 use Rattle.automaton.specs.History.{History}
 use Rattle.automaton.specs.Machine.{Machine, step, isState}
 use Rattle.automaton.specs.Explore.{Reached, isAt, numberIn, add, visit, unreached}
-use Rattle.automaton.proofs.Counting.{place-hit, place-end}
+use Rattle.automaton.proofs.Below.{place-hit, place-end}
 use Rattle.automaton.proofs.WellFormed.{getD-map-within}
-use Rattle.automaton.proofs.Exploring.{stateAt, front-length}
-use Rattle.automaton.proofs.Turns.{visit-grows}
+use Rattle.automaton.proofs.Explore.{stateAt, front-length}
+use Rattle.automaton.proofs.RemainingSearch.{visit-grows}
 use Rattle.automaton.specs.StateList.{stateOf, stateList, bare, numberAmong, addState, afterCodes}
 
 pub states-bare : (l : List ℕ) → stateList (map bare l) ≡ l
@@ -28,7 +28,7 @@ state-at found k l = getD-map-within stateOf found k unreached 0 l
 
 place-map : {A B : Type 0} (f : B → Bool) (g : A → B) (xs : List A) → placeOf f (map g xs) ≡ placeOf (λ x. f (g x)) xs
 place-map f g [] = refl
-place-map f g (x ∷ xs) = ap (λ (n : ℕ). cond (f (g x)) 1 (oneOn n)) (place-map f g xs)
+place-map f g (x ∷ xs) = ap (λ (n : ℕ). cond (f (g x)) 1 (sucPositive n)) (place-map f g xs)
 
 -- a number is a place among the states
 pub number-place : (l : List ℕ) (s : ℕ) → isState s ≡ true → numberAmong l s ≡ placeOf (eqb s) l

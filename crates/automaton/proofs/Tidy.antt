@@ -11,7 +11,7 @@ use Rattle.automaton.specs.Machine.{Machine, step, SameHistories, Alike}
 use Rattle.automaton.specs.Ordered.{Before, Ordered}
 use Rattle.automaton.specs.Table.{tabled}
 use Rattle.automaton.proofs.Order.{tri}
-use Rattle.automaton.proofs.Machines.{zeros-alike, alike-step}
+use Rattle.automaton.proofs.Machine.{zeros-alike, alike-step}
 use Rattle.automaton.proofs.WellFormed.{IsTable, step-entry}
 
 -- the states are in order, and alike states are equal

@@ -13,7 +13,7 @@ use borrow.Author.Tests.{ltb-false}
 use Rattle.automaton.specs.History.{History}
 use Rattle.automaton.specs.Machine.{step, after}
 use Rattle.automaton.specs.Table.{entryIn, tabled}
-use Rattle.automaton.proofs.Machines.{after-keeps}
+use Rattle.automaton.proofs.Machine.{after-keeps}
 
 -- every row has w entries
 abbrev pub Wide : ℕ → List (List ℕ) → Type 0

@@ -40,14 +40,14 @@ sameList (x ∷ xs) [] = false
 sameList (x ∷ xs) (y ∷ ys) = let rest = sameList xs ys in eqb x y && rest
 
 -- 0 stays, any other number grows by one
-abbrev pub oneOn : ℕ → ℕ
-oneOn zero = 0
-oneOn (suc k) = suc (suc k)
+abbrev pub sucPositive : ℕ → ℕ
+sucPositive zero = 0
+sucPositive (suc k) = suc (suc k)
 
 -- the place of the first element at which f holds, counted from 1; 0 if there is none
 abbrev pub placeOf {ℓ} : {A : Type ℓ} → (A → Bool) → List A → ℕ
 placeOf f [] = 0
-placeOf f (x ∷ xs) = let rest = oneOn (placeOf f xs) in cond (f x) 1 rest
+placeOf f (x ∷ xs) = let rest = sucPositive (placeOf f xs) in cond (f x) 1 rest
 
 -- how many of the numbers below n pass
 abbrev pub one : Bool → ℕ

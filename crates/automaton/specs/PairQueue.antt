@@ -7,7 +7,7 @@ use Prim.Native.Nat.{ℕ, _+_, _-_, _≤_, _<_}
 use lib.Dec.{leb}
 use Rattle.automaton.specs.History.{History, Earlier, NotLater}
 use Rattle.automaton.specs.Machine.{Machine, after, possibleFrom, Distinguishes}
-use Rattle.automaton.specs.Parents.{trail, Falls}
+use Rattle.automaton.specs.Parents.{trail, EarlierParents}
 use Rattle.automaton.specs.Labels.{Among, Rooted, Divides, labels}
 
 -- a state of A, a state of B, and a history that leads to both
@@ -49,7 +49,7 @@ pub record IsQueue (A B : Machine) (a b m : ℕ) (q : Queue) (label : ℕ → �
   pub first : pairAt q 0 ≡ record { left = A .start; right = B .start; history = [] }
   pub pairs : (k : ℕ) → k < m → IsPair A B a b (pairAt q k)
   pub ordered : (j k : ℕ) → j < k → k < m → Earlier (pairAt q j .history) (pairAt q k .history)
-  pub falls : Falls m (q .parent)
+  pub falls : EarlierParents m (q .parent)
   pub labelled : (z : History) → Divides (a + b) label (possibleAt a A B z) → (k : ℕ) × (k < m) × Apart A B (pairAt q k) z
   pub rooted : Rooted (a + b) label
   pub few : m + labels (a + b) label ≤ a + b

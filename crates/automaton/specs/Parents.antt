@@ -15,5 +15,5 @@ unfoldable pub trail : (ℕ → ℕ) → (ℕ → ℕ) → ℕ → History
 trail parent code k = climb parent code (suc k) k
 
 -- of m places each but the first has an earlier one for its parent
-abbrev pub Falls : ℕ → (ℕ → ℕ) → Type 0
-Falls m parent = (k : ℕ) → suc k < m → parent (suc k) ≤ k
+abbrev pub EarlierParents : ℕ → (ℕ → ℕ) → Type 0
+EarlierParents m parent = (k : ℕ) → suc k < m → parent (suc k) ≤ k

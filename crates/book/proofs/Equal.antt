@@ -8,7 +8,7 @@ use lib.ListN.{length, getD}
 use lib.Seq.{ext-getD}
 use borrow.Author.Tests.{eqb-true, eq-eqb}
 use Rattle.automaton.specs.Below.{allBelow, sameList}
-use Rattle.automaton.proofs.Counting.{all-below, all-below-at, same-list-refl, same-list-true}
+use Rattle.automaton.proofs.Below.{all-below, all-below-at, same-list-refl, same-list-true}
 
 pub lists-differ : (xs ys : List ℕ) → (xs ≡ ys → ⊥) → false ≡ sameList xs ys
 lists-differ xs ys n = go (sameList xs ys) refl

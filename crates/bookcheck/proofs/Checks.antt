@@ -9,7 +9,7 @@ use lib.Dec.{eqb}
 use lib.ListN.{length}
 use borrow.Author.Tests.{le-leb, leb-true, eq-eqb, eqb-true}
 use Rattle.automaton.specs.Below.{allBelow}
-use Rattle.automaton.proofs.Counting.{and-true}
+use Rattle.automaton.proofs.Below.{and-true}
 use Rattle.definitions.specs.Bytes.{byte, hasMark, within}
 use Rattle.definitions.specs.Book.{events, fields, requests, width, states}
 use Rattle.definitions.specs.Refusal.{isMarked, countHolds, headerHolds}

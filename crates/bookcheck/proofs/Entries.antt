@@ -9,7 +9,7 @@ use native.Mathlib.Decide.{decLt}
 use native.Mathlib.Omega.{arith}
 use lib.ListN.{length}
 use borrow.Author.Tests.{leb-true, le-leb}
-use Rattle.automaton.proofs.Counting.{below-suc, all-below, all-below-at}
+use Rattle.automaton.proofs.Below.{below-suc, all-below, all-below-at}
 use Rattle.definitions.specs.Bytes.{byte}
 use Rattle.definitions.specs.Book.{events, width, states, entry}
 use Rattle.definitions.specs.Refusal.{entriesHold}

@@ -4,7 +4,7 @@ use mathlib.Core.List.{List}
 use Prim.Native.Nat.{ℕ, zero, suc, _+_, _-_, _<_, _≤_}
 use native.Mathlib.Omega.{arith}
 use borrow.Author.Tests.{lt-ltb, le-ltb}
-use Rattle.automaton.proofs.Counting.{getD-list-below}
+use Rattle.automaton.proofs.Below.{getD-list-below}
 use Rattle.definitions.specs.Bytes.{byte}
 use Rattle.definitions.specs.Policy.{fields, presentCount, frame}
 

@@ -9,7 +9,7 @@ use Rattle.definitions.specs.Policy.{fields, requests, width}
 use Rattle.definitions.specs.Valuation.{valuations}
 use Rattle.definitions.specs.Refusal.{fileRefusal}
 use Rattle.policy.specs.Sized.{Sized, Passed}
-use Rattle.policy.proofs.Checked.{passed}
+use Rattle.policy.proofs.PassedFile.{passed}
 
 module _ (p : List ℕ) (e : fileRefusal p ≡ 0) where
   pub has-passed : Passed p

@@ -14,8 +14,8 @@ use borrow.Author.Tests.{leb-true, leb-false}
 use Rattle.automaton.specs.Machine.{Machine, isState}
 use Rattle.automaton.specs.Table.{table, tabled}
 use Rattle.automaton.proofs.WellFormed.{IsTable}
-use Rattle.automaton.proofs.Exploring.{reached-sound}
-use Rattle.automaton.proofs.Tables.{table-length, table-is-table, table-wide, table-ordered}
+use Rattle.automaton.proofs.Explore.{reached-sound}
+use Rattle.automaton.proofs.Table.{table-length, table-is-table, table-wide, table-ordered}
 use Rattle.definitions.specs.Answer.{written}
 use Rattle.definitions.specs.Policy.{width}
 use Rattle.definitions.specs.Valuation.{valuations}

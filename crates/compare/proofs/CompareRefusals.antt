@@ -11,7 +11,7 @@ use Rattle.definitions.specs.Answer.{thenJudge}
 use Rattle.definitions.specs.Book.{frame}
 use Rattle.definitions.specs.Refusal.{bookRefusal, row15}
 use Rattle.definitions.specs.Compare.{compareRefusal}
-use Rattle.automaton.proofs.Counting.{same-list-true}
+use Rattle.automaton.proofs.Below.{same-list-true}
 use Rattle.definitions.proofs.Tests.{judge-zero, then-judge-zero}
 use Rattle.definitions.proofs.Accepted.{book-passed}
 use Rattle.definitions.proofs.Comparisons.{same-width}

@@ -10,7 +10,7 @@ use Rattle.automaton.specs.History.{History}
 use Rattle.definitions.specs.Answer.{Answer, answer, refused, given, written, afterCall, historyBytes}
 use Rattle.definitions.specs.Book.{frame}
 use Rattle.definitions.specs.Compare.{comparison, compareRefusal, compareAnswer, compareBuffer}
-use Rattle.automaton.proofs.Counting.{same-list-true}
+use Rattle.automaton.proofs.Below.{same-list-true}
 use Rattle.definitions.proofs.Written.{written-next, length-taken}
 use Rattle.definitions.proofs.Answers.{refused-answer, given-answer, refused-buffer, given-buffer, answer-given, no-shorter}
 use Rattle.definitions.proofs.Accepted.{book-passed}

@@ -10,7 +10,7 @@ use lib.ListN.{length, getD, set, length-map, length-set}
 use lib.Seq.{getD-set-same, getD-set-other, ext-getD}
 use borrow.Author.Tests.{eq-eqb, ne-eqb}
 use Rattle.automaton.specs.Below.{listBelow}
-use Rattle.automaton.proofs.Counting.{length-list-below, getD-list-below}
+use Rattle.automaton.proofs.Below.{length-list-below, getD-list-below}
 use Rattle.automaton.specs.Labels.{Among}
 use Rattle.automaton.proofs.Labels.{Merged}
 use Rattle.automaton.proofs.WellFormed.{getD-map-within}

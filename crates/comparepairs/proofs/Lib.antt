@@ -1,4 +1,4 @@
 -- Laws that belong to no one function.
-pub mod BookRows
+pub mod RowSteps
 pub mod QueueBytes
 pub mod PairSearch

@@ -11,10 +11,10 @@ use lib.ListN.{length, getD, length-map}
 use Rattle.automaton.specs.History.{History}
 use Rattle.automaton.specs.Machine.{step}
 use Rattle.automaton.specs.Labels.{Among}
-use Rattle.automaton.proofs.Separating.{HasStates, Answers, after-within}
+use Rattle.automaton.proofs.Separation.{HasStates, Answers, after-within}
 use Rattle.automaton.specs.PairQueue.{Queue, Search, pairAt}
-use Rattle.automaton.proofs.Comparing.{search-begun, turn-neither, turn-same, turn-new, turn-pair, search-right, search-few, search-alike, search-found, Added}
-use Rattle.automaton.proofs.Pairs.{difference-is}
+use Rattle.automaton.proofs.PairQueue.{search-begun, turn-neither, turn-same, turn-new, turn-pair, search-right, search-few, search-alike, search-found, Added}
+use Rattle.automaton.proofs.Pair.{difference-is}
 use Rattle.definitions.specs.Book.{width, states, bookMachine}
 use Rattle.definitions.specs.Compare.{comparison}
 use Rattle.definitions.proofs.BookSteps.{step-inside, has-states}
@@ -28,7 +28,7 @@ use Rattle.comparelabels.proofs.LabelBytes.{labels-merged, low-label, not-none,
 use Rattle.comparepairs.specs.PairSearch.{Books, BooksReady, PairSearch, leftAt, rightAt, queueOf, rowOf, Both, Spotted, Outcome}
 use Rattle.comparepairs.specs.declared.Tried.{Tried}
 use Rattle.comparepairs.specs.declared.Spot.the-variants.{Nowhere, At}
-use Rattle.comparepairs.proofs.BookRows.{row-length, row-step, row-most}
+use Rattle.comparepairs.proofs.RowSteps.{row-length, row-step, row-most}
 use Rattle.comparepairs.proofs.QueueBytes.{left-put, right-put, pair-added}
 
 -- ---- the two machines. The number states b + 1 stands for no state, so that the first machine is taken as one with so many states.

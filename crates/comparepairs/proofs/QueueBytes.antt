@@ -6,7 +6,7 @@ use native.Mathlib.Omega.{arith}
 use lib.ListN.{length, set}
 use lib.Seq.{getD-set-other}
 use Rattle.automaton.proofs.Parents.{Stored}
-use Rattle.automaton.proofs.Comparing.{Added}
+use Rattle.automaton.proofs.PairQueue.{Added}
 use Rattle.search.specs.Trail.{firstAt, secondAt, placed}
 use Rattle.search.proofs.Trails.{placed-first, placed-second, placed-length}
 use Rattle.comparepairs.specs.PairSearch.{leftAt, rightAt, queueOf}

@@ -6,7 +6,7 @@ use mathlib.Core.Option.{Option, none, some}
 use Prim.Native.Nat.{ℕ, suc, _+_, _-_, _*_, _≤_, _<_}
 use lib.ListN.{length, getD, take, drop}
 use Rattle.automaton.specs.History.{History}
-use Rattle.automaton.specs.Parents.{Falls}
+use Rattle.automaton.specs.Parents.{EarlierParents}
 use Rattle.automaton.specs.PairQueue.{Queue, Search}
 use Rattle.definitions.specs.Book.{width, states, bookMachine}
 use Rattle.definitions.specs.Compare.{comparison}
@@ -58,7 +58,7 @@ pub record Both (one other : List ℕ) (c : ℕ) : Type 0 where
 
 -- the history of place i can be read off the trail, and written with code c after it
 pub record Traced (i c : ℕ) (trail : List ℕ) : Type 0 where
-  pub falls : Falls (suc i) (firstAt trail)
+  pub falls : EarlierParents (suc i) (firstAt trail)
   pub few : i < 255
   pub room : 2 * i + 1 < length trail
   pub byte : c < 256

@@ -10,7 +10,7 @@ use lib.Dec.{leb, eqb}
 use lib.ListN.{length}
 use borrow.Author.Tests.{leb-true, ltb-true, eqb-true, le-leb, lt-leb, lt-ltb, le-ltb, eq-eqb}
 use Rattle.automaton.specs.Below.{allBelow}
-use Rattle.automaton.proofs.Counting.{and-true, or-true, all-below, all-below-at}
+use Rattle.automaton.proofs.Below.{and-true, or-true, all-below, all-below-at}
 use Rattle.definitions.specs.Bytes.{byte, hasMark, hasVersion1}
 use Rattle.definitions.specs.Policy.{events, fields, variables, rules, count, requests, width, exactLength, rule, mask, decision, ge, lt, change, eventChange}
 use Rattle.definitions.specs.Valuation.{valuations}

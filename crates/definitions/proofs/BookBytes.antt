@@ -14,7 +14,7 @@ use Rattle.automaton.specs.History.{History}
 use Rattle.automaton.specs.Machine.{step, after}
 use Rattle.automaton.specs.Table.{entryIn, tabled}
 use Rattle.automaton.proofs.Congruence.{fold-below-same}
-use Rattle.automaton.proofs.Machines.{step-past}
+use Rattle.automaton.proofs.Machine.{step-past}
 use Rattle.automaton.proofs.WellFormed.{Wide, IsTable, step-inside}
 use Rattle.definitions.specs.Bytes.{byte, times}
 use Rattle.definitions.specs.Book as B

@@ -12,8 +12,8 @@ use lib.Seq.{getD-drop}
 use borrow.Author.Tests.{ltb-true, lt-ltb, ne-eqb}
 use Rattle.automaton.specs.History.{History}
 use Rattle.automaton.specs.Machine.{step, after, isState}
-pub use Rattle.automaton.proofs.Machines.{is-state, state-is}
-use Rattle.automaton.proofs.Separating.{HasStates}
+pub use Rattle.automaton.proofs.Machine.{is-state, state-is}
+use Rattle.automaton.proofs.Separation.{HasStates}
 use Rattle.definitions.specs.Book.{events, width, states, entry, bookMachine}
 use Rattle.definitions.specs.Demands.{Events}
 use Rattle.definitions.proofs.Steps.{step-next}

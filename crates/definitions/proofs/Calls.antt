@@ -4,7 +4,7 @@ use mathlib.Core.List.{List}
 use Prim.Native.Nat.{ℕ, _≤_}
 use lib.ListN.{length}
 use borrow.Author.Tests.{le-leb}
-use Rattle.automaton.proofs.Counting.{same-list-refl}
+use Rattle.automaton.proofs.Below.{same-list-refl}
 use Rattle.definitions.specs.Answer.{given, written, historyBytes}
 use Rattle.definitions.specs.Book as B
 use Rattle.definitions.specs.Refusal.{Accepted, bookRefusal, row15}
@@ -14,7 +14,7 @@ use Rattle.definitions.specs.Compare.{comparison, compareRefusal, compar
 use Rattle.definitions.specs.Demands.{bookIn, bookBuilt, buffersWith, JudgedInBuffers, Demand2OfCalls, BooksInBuffers, Demand3OfCalls}
 use Rattle.definitions.proofs.Answers.{given-answer, given-buffer}
 use Rattle.definitions.proofs.Written.{take-written}
-use Rattle.definitions.proofs.Built.{built-passes, frames-same}
+use Rattle.definitions.proofs.BookOf.{built-passes, frames-same}
 use Rattle.definitions.proofs.Demands.{demand2, demand3}
 
 -- ---- build

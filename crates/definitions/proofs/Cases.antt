@@ -8,7 +8,7 @@ use lib.Dec.{eqb}
 use lib.ListN.{length, getD}
 use borrow.Author.Tests.{eqb-true, not-false}
 use Rattle.automaton.specs.Below.{sameList, placeOf}
-use Rattle.automaton.proofs.Counting.{and-true, same-list-true, place-none}
+use Rattle.automaton.proofs.Below.{and-true, same-list-true, place-none}
 use Rattle.definitions.specs.Answer.{Answer, refused, given}
 use Rattle.definitions.specs.Refusal.{policyRefusal, situations, bookRefusal}
 use Rattle.definitions.specs.Build.{bookOf, bookRows, buildAnswer, buildBuffer}

@@ -6,7 +6,7 @@ use Prim.Native.Nat.{ℕ, zero, suc, _≤_}
 use native.Mathlib.Omega.{arith}
 use lib.Dec.{leb, eqb}
 use borrow.Author.Tests.{leb-true, eqb-true}
-use Rattle.automaton.proofs.Counting.{and-true}
+use Rattle.automaton.proofs.Below.{and-true}
 use Rattle.definitions.specs.Answer.{judge, Check, row, refusalBy}
 
 -- the test of row n; it passes where there is no such row

@@ -10,10 +10,10 @@ use lib.ListN.{length, drop}
 use lib.Seq.{getD-take, getD-drop}
 use Rattle.automaton.specs.History.{History, Earliest}
 use Rattle.automaton.specs.Machine.{possible, SameHistories, inOne}
-use Rattle.automaton.proofs.Counting.{is-true}
+use Rattle.automaton.proofs.Below.{is-true}
 use Rattle.automaton.proofs.Congruence.{fold-below-same}
-use Rattle.automaton.proofs.Separating.{Separates}
-use Rattle.automaton.proofs.Pairs.{difference-none, difference-some}
+use Rattle.automaton.proofs.Separation.{Separates}
+use Rattle.automaton.proofs.Pair.{difference-none, difference-some}
 use Rattle.definitions.specs.Bytes.{byte, times, product}
 use Rattle.definitions.specs.Book.{fields, count, frame, requests, width, states, bookMachine}
 use Rattle.definitions.specs.Refusal.{bookRefusal}

@@ -14,14 +14,14 @@ use Rattle.definitions.specs.Verdict.{findings}
 use Rattle.definitions.specs.Compare.{comparison}
 use Rattle.definitions.specs.Demands.{FindingsAreRight, Demand2, Demand3}
 use Rattle.definitions.proofs.Accepted.{book-passed}
-use Rattle.definitions.proofs.Built.{built-frame, built-events, built-requests, built-histories, built-passes, frames-same, books-same}
+use Rattle.definitions.proofs.BookOf.{built-frame, built-events, built-requests, built-histories, built-passes, frames-same, books-same}
 use Rattle.definitions.proofs.SameHistories.{findings-along, comparison-along}
 -- verdict-right : (b : List ℕ) → bookRefusal b ≡ 0 → VerdictIsRight b
 pub use Rattle.definitions.proofs.Verdicts.{verdict-right}
 -- compare-right : (b d : List ℕ) → bookRefusal b ≡ 0 → bookRefusal d ≡ 0 → frame b ≡ frame d → CompareIsRight b d
 pub use Rattle.definitions.proofs.Comparisons.{compare-right}
 -- states-right : (p : List ℕ) → Accepted p → StatesAreRight (policyMachine p) (bookOf p)
-pub use Rattle.definitions.proofs.States.{states-right}
+pub use Rattle.definitions.proofs.BookStates.{states-right}
 -- row11-right : (p : List ℕ) → fileRefusal p ≡ 0 → Row11IsRight p
 pub use Rattle.definitions.proofs.Row11.{row11-right}
 -- levels-right : (p : List ℕ) → LevelsAreRight p

@@ -7,7 +7,7 @@ use Prim.Native.Nat.{ℕ, zero, suc, _+_, _≤_, _<_}
 use native.Mathlib.Omega.{arith}
 use lib.Dec.{ltb}
 use borrow.Author.Tests.{ltb-true}
-use Rattle.automaton.proofs.Counting.{and-true, any-below-at, greatestBelow, greatest-below}
+use Rattle.automaton.proofs.Below.{and-true, any-below-at, greatestBelow, greatest-below}
 use Rattle.definitions.specs.Policy.{rules, rule, level}
 use Rattle.definitions.specs.Situation.{fits, outranks, outranked, applies}
 use Rattle.definitions.specs.Demands.{sameLevel, LevelsAreRight}

@@ -17,12 +17,12 @@ pub mod BookSteps
 pub mod TableBytes
 pub mod RowsWritten
 pub mod SearchArray
-pub mod Blocking
+pub mod BlockedHistories
 pub mod Verdicts
 pub mod Comparisons
 pub mod SameHistories
-pub mod Built
-pub mod States
+pub mod BookOf
+pub mod BookStates
 pub mod Demands
 pub mod Calls
-pub mod Texts
+pub mod ShelfText

@@ -7,7 +7,7 @@ use native.Mathlib.Nat.{not-suc-le-zero, mod-one, mod-lt, mod-eq-of-lt, mul-comm
 use native.Mathlib.Omega.{arith}
 use lib.Arith.{lt-one, digits-lt, digits-div, digits-mod, mod-mul}
 use Rattle.automaton.specs.Below.{foldBelow}
-use Rattle.automaton.proofs.Counting.{below-suc}
+use Rattle.automaton.proofs.Below.{below-suc}
 use Rattle.automaton.proofs.Congruence.{fold-below-same}
 use Rattle.definitions.specs.Bytes.{product}
 

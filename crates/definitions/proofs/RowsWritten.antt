@@ -8,7 +8,7 @@ use native.Mathlib.Omega.{arith}
 use lib.ListN.{length, getD, take, drop, set, length-append, length-drop, take-append-drop, drop-of-length-le}
 use lib.Seq.{take-all, getD-take, take-suc, take-suc-set, length-take-le, take-at, drop-at, drop-drop, ext-getD}
 use borrow.Rule.Slice.PartMut.{putMid}
-use Rattle.automaton.proofs.Counting.{length-list-below, getD-list-below}
+use Rattle.automaton.proofs.Below.{length-list-below, getD-list-below}
 use Rattle.automaton.proofs.WellFormed.{Wide}
 use Rattle.definitions.specs.Answer.{written}
 use Rattle.definitions.specs.Book.{concat}

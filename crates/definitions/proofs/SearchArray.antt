@@ -8,13 +8,13 @@ use lib.ListN.{length, getD, take, drop, List·getD-append}
 use Rattle.automaton.specs.Machine.{Machine, step, isState}
 use Rattle.automaton.specs.Explore.{Reached, numberIn, visit, unreached, startOf, reached}
 use Rattle.automaton.specs.Table.{rowOf}
-use Rattle.automaton.proofs.Exploring.{Front, front-at, front-length, visit-front, stateAt, Sound}
+use Rattle.automaton.proofs.Explore.{Front, front-at, front-length, visit-front, stateAt, Sound}
 use Rattle.definitions.specs.Answer.{written}
 use Rattle.definitions.proofs.BookSteps.{state-is}
 use Rattle.automaton.specs.StateList.{stateList, numberAmong, afterCodes, rowAmong}
 use Rattle.automaton.proofs.StateList.{length-states, state-at, number-states, visit-states}
 use Rattle.automaton.proofs.Congruence.{list-below-same}
-use Rattle.automaton.proofs.Turns.{ToCome, to-come-begun, to-come-turn, to-come-front, to-come-done}
+use Rattle.automaton.proofs.RemainingSearch.{Remains, remains-begun, remains-turn, remains-front, remains-done}
 use Rattle.automaton.proofs.KeptNumbers.{row-stays}
 use Rattle.definitions.proofs.Written.{take-written, length-written, written-take, written-again}
 
@@ -22,7 +22,7 @@ use Rattle.definitions.proofs.Written.{take-written, length-written, wr
 pub record Searched (m : Machine) (most : ℕ) (L : List Reached) (found₀ found : List ℕ) (n s : ℕ) : Type 0 where
   pub sound : Sound m L
   pub list : List Reached
-  pub come : ToCome m most L s list
+  pub come : Remains m most L s list
   pub room : n ≤ length found₀
   pub few : n ≤ most
   pub inside : s ≤ n
@@ -34,7 +34,7 @@ pub searched-begun : (m : Machine) (most : ℕ) (L : List Reached) (found : List
 searched-begun m most L found some room first all sound = record {
   sound = sound;
   list = startOf m;
-  come = to-come-begun m most L all;
+  come = remains-begun m most L all;
   room = room;
   few = some;
   inside = omega arith;
@@ -44,7 +44,7 @@ searched-begun m most L found some room first all sound = record {
 
 module _ {m : Machine} {most : ℕ} {L : List Reached} {found₀ found : List ℕ} {n s : ℕ} (now : Searched m most L found₀ found n s) where
   front : Front (now .list) L
-  front = to-come-front m most L s (now .list) (now .come)
+  front = remains-front m most L s (now .list) (now .come)
 
   pub searched-all : n ≤ length L
   searched-all = omega (arith, front-length front, now .count)
@@ -54,7 +54,7 @@ module _ {m : Machine} {most : ℕ} {L : List Reached} {found₀ found : List �
 
   pub searched-done : n ≤ s → (n ≡ length L) × (found ≡ written (stateList L) found₀)
   searched-done l =
-      let whole : now .list ≡ L = to-come-done m most L s (now .list) (omega (arith, now .count)) (now .come) in
+      let whole : now .list ≡ L = remains-done m most L s (now .list) (omega (arith, now .count)) (now .come) in
       (now .count ∙ ap length whole, now .array ∙ ap (λ (l : List Reached). written (stateList l) found₀) whole)
 
   -- the next state is visited
@@ -86,11 +86,11 @@ module _ {m : Machine} {most : ℕ} {L : List Reached} {found₀ found : List �
         rw (now .array) (take-written (stateList (now .list)) found₀ n (length-states (now .list) ∙ sym (now .count))) in
         rw (old, at-list) (sym (visit-states m t (m .width) (now .list)))
 
-    come-on : ToCome m most L (suc s) more
-    come-on = to-come-turn m most L s (now .list) (omega (arith, now .count)) (omega (arith, now .few)) (now .come)
+    come-on : Remains m most L (suc s) more
+    come-on = remains-turn m most L s (now .list) (omega (arith, now .count)) (omega (arith, now .few)) (now .come)
 
     front-on : Front more L
-    front-on = to-come-front m most L (suc s) more come-on
+    front-on = remains-front m most L (suc s) more come-on
 
     grows : n ≤ length more
     grows = omega (arith, front-length (visit-front m t (m .width) (now .list)), now .count)

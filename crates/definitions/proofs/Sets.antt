@@ -13,7 +13,7 @@ use borrow.Author.Tests.{eqb-true, eqb-false, eq-eqb, ne-eqb}
 use Rattle.automaton.specs.Below.{foldBelow, anyBelow}
 use Rattle.automaton.specs.Machine.{isState}
 use Rattle.automaton.proofs.Order.{tri}
-use Rattle.automaton.proofs.Counting.{and-true, or-true, any-below, any-below-at}
+use Rattle.automaton.proofs.Below.{and-true, or-true, any-below, any-below-at}
 use Rattle.definitions.specs.Bytes.{bit, product}
 use Rattle.definitions.specs.Valuation.{startValuation}
 use Rattle.definitions.specs.Situation.{emptySet, insert, union, startSituation, isEmpty}

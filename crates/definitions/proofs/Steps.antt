@@ -12,8 +12,8 @@ use lib.Pow.{pow-lt, pow-pos}
 use borrow.Author.Tests.{leb-true, ltb-true, ltb-false, eqb-true, not-true, le-leb, lt-ltb, le-ltb, eq-eqb}
 use Rattle.automaton.specs.History.{History}
 use Rattle.automaton.specs.Machine.{Machine, step, after, isState}
-use Rattle.automaton.proofs.Counting.{and-true, all-below, all-below-at, any-below, any-below-at}
-use Rattle.automaton.proofs.Machines.{step-past, after-keeps}
+use Rattle.automaton.proofs.Below.{and-true, all-below, all-below-at, any-below, any-below-at}
+use Rattle.automaton.proofs.Machine.{step-past, after-keeps}
 use Rattle.definitions.specs.Policy.{events, fields, variables, rules, width, rule, mask, decision, level, ge, lt, change, eventChange, value}
 use Rattle.definitions.specs.Valuation.{valuations, variableIn, byRule, byEvent}
 use Rattle.definitions.specs.Situation.{maskLets, letsThrough, isBelow, testPasses, enabled, fits, outranks, outranked, applies, startSituation, decides, requestImage, image, imageOfSet, policyMachine}

@@ -8,7 +8,7 @@ use lib.ListN.{length, getD, drop, length-drop, List·getD-eq-default}
 use lib.Seq.{length-take-le, getD-take, getD-drop}
 use Rattle.automaton.specs.Table.{entryIn}
 use Rattle.automaton.specs.Join.{classOf}
-use Rattle.automaton.proofs.Counting.{length-list-below, getD-list-below}
+use Rattle.automaton.proofs.Below.{length-list-below, getD-list-below}
 use Rattle.automaton.proofs.WellFormed.{IsTable}
 use Rattle.definitions.specs.Bytes.{byte}
 use Rattle.definitions.specs.Rows.{rowIn, rowsIn, TableIn, EntriesBelow}

@@ -7,7 +7,7 @@ use Prim.Native.Nat.{ℕ, zero, suc, _+_, _*_, _≤_}
 use native.Mathlib.Omega.{arith}
 use lib.Dec.{leb, eqb, eqb·suc-zero}
 use borrow.Author.Tests.{leb-true, eqb-true, le-leb, eq-eqb, not-true, not-false}
-use Rattle.automaton.proofs.Counting.{and-true}
+use Rattle.automaton.proofs.Below.{and-true}
 use Rattle.definitions.specs.Answer.{judge, thenJudge}
 use Rattle.definitions.specs.Bytes.{byte, hasMark, hasVersion1, within}
 

@@ -8,7 +8,7 @@ use native.Mathlib.Nat.{zero-div, zero-mod}
 use native.Mathlib.Omega.{arith}
 use lib.Dec.{ltb}
 use borrow.Author.Tests.{ltb-true}
-use Rattle.automaton.proofs.Counting.{greatest-below, greatest-below-least}
+use Rattle.automaton.proofs.Below.{greatest-below, greatest-below-least}
 use Rattle.definitions.specs.Policy.{variables, rules, rule, ge, lt}
 use Rattle.definitions.specs.Valuation.{tested, bound, valuesOf, worth, valuations, startValuation, variableIn, changed, carriedOut}
 use Rattle.definitions.proofs.Radix.{product-some, lowNumber, low-below, low-digit, low-digit-below, low-unique}

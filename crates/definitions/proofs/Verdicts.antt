@@ -13,9 +13,9 @@ use Rattle.automaton.specs.Below.{lowestBelow}
 use Rattle.automaton.specs.History.{History, Earliest}
 use Rattle.automaton.specs.Machine.{after, possible}
 use Rattle.automaton.specs.Explore.{Reached, firstThat}
-use Rattle.automaton.proofs.Counting.{and-true, any-below, any-below-at, lowest-below, lowest-below-le}
-use Rattle.automaton.proofs.Machines.{possible-prefix}
-use Rattle.automaton.proofs.Exploring.{reached-few}
+use Rattle.automaton.proofs.Below.{and-true, any-below, any-below-at, lowest-below, lowest-below-le}
+use Rattle.automaton.proofs.Machine.{possible-prefix}
+use Rattle.automaton.proofs.Explore.{reached-few}
 use Rattle.automaton.proofs.Earliest.{Explored, reached-explored, Passes, first-earliest, first-none}
 use Rattle.definitions.specs.Codes.{acceptCode, rejectCode}
 use Rattle.definitions.specs.Book.{events, requests, states, bookMachine}
@@ -26,7 +26,7 @@ use Rattle.definitions.specs.Demands.{ConflictAfter, MissingAfter, Block
 use Rattle.definitions.specs.Checked.{BookPassed}
 use Rattle.definitions.proofs.Accepted.{book-passed}
 use Rattle.definitions.proofs.BookSteps.{step-inside}
-use Rattle.definitions.proofs.Blocking.{code-at, unanswered-to, unanswered-from, blocked-to, blocked-from}
+use Rattle.definitions.proofs.BlockedHistories.{code-at, unanswered-to, unanswered-from, blocked-to, blocked-from}
 
 -- ---- the first two findings, for any test
 -- h is possible, and the test passes for request r at the state that h leads to

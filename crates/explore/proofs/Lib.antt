@@ -2,5 +2,5 @@ pub mod SetRows
 pub mod StatePlaces
 pub mod Once
 pub mod StateEntry
-pub mod Visits
+pub mod SituationVisits
 pub mod ReachedStates

@@ -9,7 +9,7 @@ use lib.Dec.{eqb}
 use lib.ListN.{length, getD, length-append, List·getD-append}
 use lib.Seq.{getD-at}
 use Rattle.automaton.specs.Machine.{Machine, step, isState}
-use Rattle.automaton.proofs.Counting.{below-suc, place-append}
+use Rattle.automaton.proofs.Below.{below-suc, place-append}
 use Rattle.automaton.specs.StateList.{numberAmong, afterCodes}
 use Rattle.automaton.proofs.StateList.{states-bare, number-place, number-new, added-cases, after-more, number-none}
 use Rattle.explore.specs.Reaches.{Once}

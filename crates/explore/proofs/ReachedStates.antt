@@ -12,8 +12,8 @@ use borrow.Author.Tests.{le-leb, lt-leb}
 use Rattle.automaton.specs.Machine.{Machine, isState}
 use Rattle.automaton.specs.Explore.{Reached, reached}
 use Rattle.automaton.specs.Table.{table}
-use Rattle.automaton.proofs.Exploring.{Sound}
-use Rattle.automaton.proofs.Tables.{table-length, row-of-table, table-wide}
+use Rattle.automaton.proofs.Explore.{Sound}
+use Rattle.automaton.proofs.Table.{table-length, row-of-table, table-wide}
 use Rattle.definitions.specs.Answer.{written}
 use Rattle.definitions.specs.Rows.{laid}
 use Rattle.automaton.specs.StateList.{stateList, afterCodes, rowAmong}

@@ -10,7 +10,7 @@ use lib.ListN.{length, getD, take, set}
 use lib.Seq.{length-take-le, getD-take}
 use borrow.Author.Tests.{eqb-true, leb-true, lt-ltb}
 use Rattle.automaton.specs.Below.{placeOf}
-use Rattle.automaton.proofs.Counting.{and-true}
+use Rattle.automaton.proofs.Below.{and-true}
 use Rattle.definitions.specs.Answer.{written}
 use Rattle.definitions.proofs.BookSteps.{is-state}
 use Rattle.automaton.specs.StateList.{numberAmong, addState}

@@ -9,7 +9,7 @@ use lib.ListN.{length, getD, take}
 use lib.Seq.{getD-take, length-take-le}
 use borrow.Author.Tests.{eq-eqb, ne-eqb, eqb-true}
 use Rattle.automaton.specs.Below.{placeOf}
-use Rattle.automaton.proofs.Counting.{place-hit, place-at}
+use Rattle.automaton.proofs.Below.{place-hit, place-at}
 
 module _ (x : ℕ) (found : List ℕ) (n i : ℕ) (room : n ≤ length found) (passed : (k : ℕ) → k < i → getD found k 0 ≡ x → ⊥) where
   long : length (take n found) ≡ n

@@ -14,9 +14,9 @@ use lib.Dec.{eqb}
 use lib.ListN.{length, getD, set}
 use borrow.Author.Tests.{lt-ltb, le-ltb, eq-eqb, ne-eqb}
 use Rattle.automaton.specs.Below.{foldBelow}
-use Rattle.automaton.proofs.Counting.{and-true, greatest-below}
+use Rattle.automaton.proofs.Below.{and-true, greatest-below}
 use Rattle.automaton.proofs.Order.{tri}
-use Rattle.automaton.proofs.Filling.{Filled, filled-turn}
+use Rattle.automaton.proofs.FilledList.{Filled, filled-turn}
 use Rattle.definitions.specs.Bytes.{bit}
 use Rattle.definitions.specs.Situation.{emptySet, insert}
 use Rattle.images.specs.Choice.{levelAt, decisionAt, withDecided, withTarget, withMost, levelIn, greatest, withChosen, chosenBy, leading, Listed, Chosen, chosenFor}

@@ -6,7 +6,7 @@ use native.Mathlib.Omega.{arith}
 use lib.Dec.{ltb, eqb}
 use borrow.Author.Tests.{ltb-true, ltb-false, eq-eqb, ne-eqb}
 use Rattle.automaton.specs.Below.{anyBelow, foldBelow}
-use Rattle.automaton.proofs.Counting.{and-true, any-below, any-below-at, greatest-below, greatest-below-least}
+use Rattle.automaton.proofs.Below.{and-true, any-below, any-below-at, greatest-below, greatest-below-least}
 use Rattle.images.specs.Choice.{withMost}
 
 -- ---- n rules, of which some fit, each with its level

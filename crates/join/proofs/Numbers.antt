@@ -16,11 +16,11 @@ use Rattle.automaton.specs.Join.{classOf, classes, minimal}
 use Rattle.automaton.specs.Ordered.{Ordered}
 use Rattle.automaton.specs.Ranks.{firsts, rank, classNumber, rankedRow, ranked}
 use Rattle.automaton.specs.Table.{tabled}
-use Rattle.automaton.proofs.Counting.{below-suc, length-list-below, getD-list-below}
+use Rattle.automaton.proofs.Below.{below-suc, length-list-below, getD-list-below}
 use Rattle.automaton.proofs.Ranks.{firsts-more, firsts-same, rank-low, first-at, firsts-of, number-of, ranked-minimal}
 use Rattle.automaton.proofs.Congruence.{map-same}
 use Rattle.automaton.proofs.WellFormed.{getD-map-within}
-use Rattle.automaton.proofs.Settled.{classes-named}
+use Rattle.automaton.proofs.StableClasses.{classes-named}
 use Rattle.definitions.specs.Bytes.{byte}
 use Rattle.definitions.specs.Rows.{rowIn, rowsIn, TableIn}
 use Rattle.join.specs.Numbers.{NamesFirst, firstStates, classNumbers, StatesBelow, numberedRow, numberedRows}

@@ -10,7 +10,7 @@ use Rattle.walk.proofs.StepLists.{walked}
 use Rattle.walk.proofs.CallCases.{open-refused, open-starts, step-refused, tell-refused}
 use Rattle.opened.specs.declared.OpenedBook.{OpenedBook}
 use Rattle.opened.specs.declared.Opened.{Opened}
-use Rattle.opened.specs.Calls.{openOf, stepOf, Run, Leads, StaysClosed}
+use Rattle.opened.specs.OpenedCalls.{openOf, stepOf, Run, Leads, StaysClosed}
 
 -- a list of calls is the walk over the bytes
 run-walks : (d : OpenedBook) (cs : List ℕ) (e : OpenedBook) → Run d cs e → (e .bytes ≡ d .bytes) × (e .state ≡ walkState (now (d .bytes)) (d .state) cs)

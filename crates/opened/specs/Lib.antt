@@ -1,2 +1,2 @@
 -- The definitions that the contracts of `opened` cite.
-pub mod Calls
+pub mod OpenedCalls

@@ -3,7 +3,7 @@
 ghost use mathlib.Core.Path.{_≡_};
 ghost use Rattle.definitions.specs.Opened.{tellAnswer};
 ghost use Rattle.walk.specs.Walk.{toldAnswer};
-ghost use Rattle.opened.specs.Calls.{openOf, stepOf};
+ghost use Rattle.opened.specs.OpenedCalls.{openOf, stepOf};
 use walk::Told;
 
 pub struct OpenedBook<'a> {

@@ -1,2 +1,2 @@
 pub mod Parts
-pub mod Checked
+pub mod PassedFile

@@ -1,4 +1,4 @@
 -- Laws that belong to no one function.
 pub mod RefusalBounds
 pub mod PackedValues
-pub mod AnswerBounds
+pub mod PackedBounds

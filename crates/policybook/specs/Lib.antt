@@ -1,3 +1,3 @@
 -- The definitions that the contracts of `policybook` cite.
 pub mod Packing
-pub mod AnswerBounds
+pub mod PackedBounds

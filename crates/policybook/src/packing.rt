@@ -8,7 +8,7 @@ ghost use Rattle.verdict.specs.VerdictAnswer.{foundOf, blockedOf, judgedAnswer}
 ghost use Rattle.verdict.specs.AnswerBounds.{BlockedWithin, FindingWithin, FindingsWithin, JudgedWithin};
 ghost use Rattle.compare.specs.ComparedAnswer.{comparedAnswer};
 ghost use Rattle.policybook.specs.Packing.{packed, bookLength, blockedValue, foundValue, findingsValue, historyLength};
-ghost use Rattle.policybook.specs.AnswerBounds.{BuiltWithin, ComparedWithin};
+ghost use Rattle.policybook.specs.PackedBounds.{BuiltWithin, ComparedWithin};
 use build::Built;
 use compare::Compared;
 use verdict::Blocked;

@@ -9,8 +9,8 @@ use lib.ListN.{length, getD, take, drop, replicate, length-replicate, getD-repli
 use lib.Seq.{take-all}
 use Rattle.automaton.specs.Join.{refine, together, classesAfter, classes}
 use Rattle.automaton.specs.Below.{countBelow}
-use Rattle.automaton.proofs.Counting.{count-below-le}
-use Rattle.automaton.proofs.Settled.{classCount, settled-by-count, classes-settled}
+use Rattle.automaton.proofs.Below.{count-below-le}
+use Rattle.automaton.proofs.StableClasses.{classCount, settled-by-count, classes-settled}
 use Rattle.definitions.specs.Bytes.{byte}
 use Rattle.definitions.specs.Rows.{rowsIn, TableIn}
 use Rattle.refine.specs.Classes.{rowsWith, lastRound}

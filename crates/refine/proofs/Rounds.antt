@@ -11,9 +11,9 @@ use lib.Seq.{length-take-le, getD-take, ext-getD}
 use borrow.Author.Tests.{eq-eqb}
 use Rattle.automaton.specs.Below.{sameList}
 use Rattle.automaton.specs.Join.{classOf, classRows, firstLike, refine, classesAfter, classes}
-use Rattle.automaton.proofs.Counting.{and-true, same-list-refl, same-list-true, place-hit}
+use Rattle.automaton.proofs.Below.{and-true, same-list-refl, same-list-true, place-hit}
 use Rattle.automaton.proofs.WellFormed.{IsTable, getD-map-within}
-use Rattle.automaton.proofs.Refining.{NamedByFirst, class-positive, classes-after-named, classes-after}
+use Rattle.automaton.proofs.AlikeWithin.{NamedByFirst, class-positive, classes-after-named, classes-after}
 use Rattle.definitions.specs.Bytes.{byte}
 use Rattle.definitions.specs.Situation.{emptySet}
 use Rattle.definitions.specs.Rows.{rowIn, lookedUp}

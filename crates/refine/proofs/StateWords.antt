@@ -12,7 +12,7 @@ use lib.ListN.{length, set}
 use lib.Seq.{ext-getD, getD-set-same, getD-set-other}
 use borrow.Author.Tests.{eqb-true, eq-eqb}
 use Rattle.automaton.specs.Below.{foldBelow}
-use Rattle.automaton.proofs.Counting.{below-suc, all-below-at}
+use Rattle.automaton.proofs.Below.{below-suc, all-below-at}
 use Rattle.definitions.specs.Bytes.{byte, bit}
 use Rattle.definitions.specs.Situation.{emptySet}
 use Rattle.definitions.proofs.Sets.{Has, bit-empty, bit-union, has-single, has-gathered}

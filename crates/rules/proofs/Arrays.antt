@@ -9,8 +9,8 @@ use lib.ListN.{length, getD, take, drop, length-drop, drop-of-length-le, List·g
 use lib.Seq.{getD-take, getD-append-add, length-take-le}
 use borrow.Rule.Slice.PartMut.{putMid, same-len-mid}
 use Rattle.automaton.specs.Below.{listBelow}
-use Rattle.automaton.proofs.Counting.{length-list-below, getD-list-below}
-use Rattle.automaton.proofs.Filling.{Filled}
+use Rattle.automaton.proofs.Below.{length-list-below, getD-list-below}
+use Rattle.automaton.proofs.FilledList.{Filled}
 use Rattle.rules.specs.Arrays.{Tabled}
 
 pub tabled-none : (f : ℕ → ℕ) (l : List ℕ) → Tabled 0 f l

@@ -12,8 +12,8 @@ use lib.Count.{trailingZeros, under}
 use lib.Dec.{eqb}
 use lib.Pow.{shr-shr, shr-le}
 use borrow.Author.Tests.{eq-eqb, ne-eqb}
-use Rattle.automaton.proofs.Machines.{is-state}
-use Rattle.automaton.proofs.Counting.{Lowest, below-suc}
+use Rattle.automaton.proofs.Machine.{is-state}
+use Rattle.automaton.proofs.Below.{Lowest, below-suc}
 use Rattle.automaton.proofs.Congruence.{fold-below-same}
 use Rattle.definitions.specs.Bytes.{bit}
 use Rattle.definitions.specs.Situation.{emptySet, insert}

@@ -12,7 +12,7 @@ use Rattle.definitions.specs.Policy.{fields, variables, rules, rule, count, mas
 use Rattle.definitions.proofs.Radix.{highDigit, digit-before, digit-last}
 use Rattle.definitions.proofs.Requests.{value-below}
 use Rattle.policy.specs.Sized.{Passed}
-use Rattle.policy.proofs.Checked.{count-in-range}
+use Rattle.policy.proofs.PassedFile.{count-in-range}
 use Rattle.rules.specs.Arrays.{Tabled}
 use Rattle.rules.specs.RuleSets.{maskAdmits, ruleAdmits, admitting, valuePasses, testPassesBy, ruleEnabled, enabling}
 use Rattle.rules.proofs.RuleSets.{passing-same}

@@ -12,12 +12,12 @@ use borrow.Author.Tests.{ne-eqb}
 use Rattle.automaton.specs.History.{History}
 use Rattle.automaton.specs.Machine.{Machine, isState, after}
 use Rattle.automaton.specs.Explore.{Reached, isAt, numberIn, add, unreached, reached}
-use Rattle.automaton.proofs.Counting.{length-list-below, getD-list-below, place-other}
-use Rattle.automaton.proofs.Exploring.{number-end, stateAt, historyAt as reachedHistory, reached-sound, reached-leads, reached-few}
+use Rattle.automaton.proofs.Below.{length-list-below, getD-list-below, place-other}
+use Rattle.automaton.proofs.Explore.{number-end, stateAt, historyAt as reachedHistory, reached-sound, reached-leads, reached-few}
 use Rattle.automaton.proofs.Congruence.{list-below-same}
-use Rattle.automaton.proofs.Machines.{is-state, state-is}
-use Rattle.automaton.proofs.Separating.{HasStates, after-within}
-use Rattle.automaton.specs.Parents.{Falls}
+use Rattle.automaton.proofs.Machine.{is-state, state-is}
+use Rattle.automaton.proofs.Separation.{HasStates, after-within}
+use Rattle.automaton.specs.Parents.{EarlierParents}
 use Rattle.automaton.proofs.Parents.{Stored, trail-same, trail-last, falls-stored}
 use Rattle.definitions.specs.Bytes.{byte}
 use Rattle.search.specs.Trail.{firstAt, secondAt, placed, historyAt}
@@ -66,7 +66,7 @@ module _ (m : Machine) (k : ℕ) (has : HasStates m k) where
     holds-leads = subst (λ (t : Reached). after m (m .start) (t .history) ≡ t .state) (holds-at H i l) (reached-leads m 127 begins i inL)
 
 -- ---- state x is stored at place n, found from place i by code c
-module _ (n : ℕ) (order trail : List ℕ) (falls : Falls n (firstAt trail)) (roomOrder : n < length order) (roomTrail : 2 * n + 1 < length trail)
+module _ (n : ℕ) (order trail : List ℕ) (falls : EarlierParents n (firstAt trail)) (roomOrder : n < length order) (roomTrail : 2 * n + 1 < length trail)
     (x i c : ℕ) (low : i < n) where
   parents : Stored n i (firstAt trail) (firstAt (placed trail n i c))
   parents = placed-first trail n i c roomTrail

@@ -1,5 +1,5 @@
 -- Laws that belong to no one function.
 pub mod Trails
 pub mod Found
-pub mod Visits
+pub mod SearchTurns
 pub mod TableRows

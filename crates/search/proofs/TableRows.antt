@@ -10,11 +10,11 @@ use lib.Seq.{getD-drop}
 use Rattle.automaton.specs.Machine.{step}
 use Rattle.automaton.specs.Explore.{Reached}
 use Rattle.automaton.proofs.Loops.{part-is-drop}
-use Rattle.automaton.proofs.Machines.{step-past}
+use Rattle.automaton.proofs.Machine.{step-past}
 use Rattle.automaton.proofs.WellFormed.{IsTable, step-entry, step-inside, entry-beyond}
 use Rattle.automaton.proofs.Congruence.{reached-same}
-use Rattle.automaton.proofs.Exploring.{stateAt}
-use Rattle.automaton.proofs.Separating.{HasStates}
+use Rattle.automaton.proofs.Explore.{stateAt}
+use Rattle.automaton.proofs.Separation.{HasStates}
 use Rattle.definitions.specs.Bytes.{byte}
 use Rattle.definitions.specs.Book.{width, states, bookMachine}
 use Rattle.definitions.specs.Checked.{BookPassed}

@@ -6,7 +6,7 @@ use native.Mathlib.Omega.{arith}
 use lib.ListN.{length, set, drop, length-append, length-set}
 use lib.Seq.{drop-cons, drop-set-lt, getD-set-same, getD-set-other}
 use Rattle.automaton.specs.History.{History}
-use Rattle.automaton.specs.Parents.{Falls}
+use Rattle.automaton.specs.Parents.{EarlierParents}
 use Rattle.automaton.proofs.Parents.{Stored, trail-start, trail-step, trail-length}
 use Rattle.definitions.specs.Answer.{written}
 use Rattle.search.specs.Trail.{firstAt, secondAt, placed, historyAt}
@@ -45,7 +45,7 @@ drop-set : (l : List ℕ) (j x : ℕ) → j < length l → drop j (set l j x) �
 drop-set l j x b =
     drop-cons (set l j x) j 0 (rw length-set b) ∙ rw (getD-set-same l j x 0 b, drop-set-lt (suc j) l j x (omega arith))
 
-module _ (trail : List ℕ) (i : ℕ) (falls : Falls (suc i) (firstAt trail)) where
+module _ (trail : List ℕ) (i : ℕ) (falls : EarlierParents (suc i) (firstAt trail)) where
   history-empty : (k : ℕ) → k ≡ 0 → historyAt trail k ≡ []
   history-empty k e = rw e (trail-start (firstAt trail) (secondAt trail))
 

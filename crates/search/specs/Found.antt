@@ -7,7 +7,7 @@ use Rattle.automaton.specs.Below.{listBelow}
 use Rattle.automaton.specs.Machine.{Machine}
 use Rattle.automaton.specs.Explore.{Reached, numberIn, visit, reached}
 use Rattle.automaton.specs.Table.{tabled}
-use Rattle.automaton.specs.Parents.{Falls}
+use Rattle.automaton.specs.Parents.{EarlierParents}
 use Rattle.definitions.specs.Bytes.{byte}
 use Rattle.definitions.specs.Verdict.{statesReached}
 use Rattle.definitions.specs.Rows.{rowsIn, TableIn}
@@ -44,7 +44,7 @@ foundIn n order trail = listBelow n (reachedAt order trail)
 -- the first n places hold the states of a list, each with its history; each but the first follows an earlier one
 pub record Holds (found : List Reached) (n : ℕ) (order trail : List ℕ) : Type 0 where
   pub are : foundIn n order trail ≡ found
-  pub falls : Falls n (firstAt trail)
+  pub falls : EarlierParents n (firstAt trail)
 
 -- the number of a state, 0 if it is not found; 0 is no state, and has 1 as if it were found
 abbrev pub numberOf : List Reached → ℕ → ℕ

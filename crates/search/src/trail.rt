@@ -3,7 +3,7 @@ ghost use mathlib.Core.Path.{_≡_};
 ghost use Prim.Native.Nat.{suc, _+_, _*_, _≤_, _<_};
 ghost use lib.ListN.{length};
 ghost use Rattle.definitions.specs.Answer.{written};
-ghost use Rattle.automaton.specs.Parents.{Falls};
+ghost use Rattle.automaton.specs.Parents.{EarlierParents};
 ghost use Rattle.search.specs.Trail.{firstAt, placed, historyAt};
 use automaton::wide;
 
@@ -19,7 +19,7 @@ pub fn put(places: &mut [u8], k: usize, x: u8, y: u8)
 // How many codes lead to place i.
 fn history_length(trail: &[u8], i: usize) -> usize
     requires { ⌜ 2 * i + 1 < length (now trail) ⌝ }
-    requires { ⌜ Falls (suc i) (firstAt (now trail)) ⌝ }
+    requires { ⌜ EarlierParents (suc i) (firstAt (now trail)) ⌝ }
     ensures { λ r. ⌜ r ≡ length (historyAt (now (trail .entry)) i) ⌝ }
 {
     let mut k = i;
@@ -34,7 +34,7 @@ fn history_length(trail: &[u8], i: usize) -> usize
 // Writes the codes that lead to place i to the front of the buffer, the last first, and returns their number. The bytes after them are unchanged.
 pub fn write_history(trail: &[u8], i: usize, buffer: &mut [u8]) -> usize
     requires { ⌜ 2 * i + 1 < length (now trail) ⌝ }
-    requires { ⌜ Falls (suc i) (firstAt (now trail)) ⌝ }
+    requires { ⌜ EarlierParents (suc i) (firstAt (now trail)) ⌝ }
     requires { ⌜ i ≤ length (now buffer) ⌝ }
     ensures { λ r. ⌜ r ≡ length (historyAt (now (trail .entry)) i) ⌝ }
     ensures { λ r. ⌜ now (buffer .exit) ≡ written (historyAt (now (trail .entry)) i) (now (buffer .entry)) ⌝ }

@@ -10,9 +10,9 @@ use Rattle.automaton.specs.Below.{anyBelow, lowestBelow}
 use Rattle.automaton.specs.History.{History}
 use Rattle.automaton.specs.Machine.{after, isState, possible}
 use Rattle.automaton.specs.Explore.{Reached, firstThat}
-use Rattle.automaton.proofs.Counting.{any-below, any-below-at}
-use Rattle.automaton.proofs.Machines.{after-append}
-use Rattle.automaton.proofs.Separating.{after-within}
+use Rattle.automaton.proofs.Below.{any-below, any-below-at}
+use Rattle.automaton.proofs.Machine.{after-append}
+use Rattle.automaton.proofs.Separation.{after-within}
 use Rattle.definitions.specs.Answer.{written, historyBytes}
 use Rattle.definitions.specs.Bytes.{byte}
 use Rattle.definitions.specs.Book.{events, requests, states, entry, bookMachine}
@@ -22,7 +22,7 @@ use Rattle.definitions.specs.Verdict.{isBlocked, historyOf, blocked}
 use Rattle.definitions.proofs.Written.{written-read}
 use Rattle.definitions.specs.Checked.{BookPassed}
 use Rattle.definitions.proofs.BookSteps.{is-state, state-is, has-states, step-is-entry}
-use Rattle.definitions.proofs.Blocking.{unanswered-to, unanswered-from, blocked-to, blocked-from}
+use Rattle.definitions.proofs.BlockedHistories.{unanswered-to, unanswered-from, blocked-to, blocked-from}
 use Rattle.search.specs.Trail as Trail
 use Rattle.search.specs.Found.{reachedAt, foundIn, Holds, bookStates}
 use Rattle.verdict.specs.Marks.{marked, unmarkedAt, markedSuccessor, Marks, FixedPoint}

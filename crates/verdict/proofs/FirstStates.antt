@@ -10,11 +10,11 @@ use native.Mathlib.Omega.{arith}
 use lib.ListN.{length, take}
 use Rattle.automaton.specs.Below.{lowestBelow, listBelow}
 use Rattle.automaton.specs.Explore.{Reached, firstThat}
-use Rattle.automaton.proofs.Counting.{below-suc, lowest-below}
+use Rattle.automaton.proofs.Below.{below-suc, lowest-below}
 use Rattle.definitions.specs.Answer.{written, historyBytes}
 use Rattle.definitions.specs.Bytes.{byte}
 use Rattle.automaton.specs.Machine.{after}
-use Rattle.automaton.specs.Parents.{Falls}
+use Rattle.automaton.specs.Parents.{EarlierParents}
 use Rattle.definitions.specs.Book.{requests, states, bookMachine}
 use Rattle.definitions.specs.Checked.{BookPassed}
 use Rattle.definitions.specs.Telling.{someRequest}
@@ -100,7 +100,7 @@ module _ (b : List ℕ) {n : ℕ} {order trail : List ℕ} (H : Holds (bookState
     book-leads = holds-leads (bookMachine b) (states b) (has-states b p) H
 
     -- what `write_history` asks for at place k
-    pub book-trail : (k : ℕ) → k < n → 256 ≤ length trail → (m : ℕ) → 128 ≤ m → (2 * k + 1 < length trail) × (Falls (suc k) (firstAt trail) × (k ≤ m))
+    pub book-trail : (k : ℕ) → k < n → 256 ≤ length trail → (m : ℕ) → 128 ≤ m → (2 * k + 1 < length trail) × (EarlierParents (suc k) (firstAt trail) × (k ≤ m))
     book-trail k l room m long = let few = book-few in (omega arith, (λ j h. H .falls j (omega arith), omega arith))
 
 -- ---- the findings with a request

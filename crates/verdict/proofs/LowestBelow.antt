@@ -5,7 +5,7 @@ use Prim.Native.Nat.{ℕ, _≤_, _<_}
 use native.Mathlib.Decide.{decLt}
 use native.Mathlib.Omega.{arith}
 use Rattle.automaton.specs.Below.{anyBelow, lowestBelow}
-use Rattle.automaton.proofs.Counting.{any-below, any-below-at, lowest-below, lowest-below-le}
+use Rattle.automaton.proofs.Below.{any-below, any-below-at, lowest-below, lowest-below-le}
 
 -- the numbers below k do not pass
 abbrev pub NoneBelow : (ℕ → Bool) → ℕ → Type 0

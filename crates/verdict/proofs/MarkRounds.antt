@@ -13,7 +13,7 @@ use lib.Seq.{getD-set-same, getD-set-other}
 use borrow.Author.Tests.{not-true}
 use Rattle.automaton.specs.Below.{anyBelow, one}
 use Rattle.automaton.specs.Machine.{isState}
-use Rattle.automaton.proofs.Counting.{below-suc, and-true, any-below-at, count-below-le, count-below-grows}
+use Rattle.automaton.proofs.Below.{below-suc, and-true, any-below-at, count-below-le, count-below-grows}
 use Rattle.definitions.specs.Bytes.{byte}
 use Rattle.definitions.specs.Book.{events, states, entry}
 use Rattle.definitions.specs.Demands.{Events}

@@ -8,7 +8,7 @@ use lib.Dec.{ltb, eqb}
 use borrow.Author.Tests.{eqb-true}
 use Rattle.automaton.specs.History.{History}
 use Rattle.automaton.specs.Machine.{step, after, isState, possible}
-use Rattle.automaton.proofs.Counting.{and-true}
+use Rattle.automaton.proofs.Below.{and-true}
 use Rattle.definitions.specs.Answer.{judge}
 use Rattle.definitions.specs.Book.{width, states, bookMachine}
 use Rattle.definitions.specs.Refusal.{bookRefusal}

@@ -8,7 +8,7 @@ use borrow.Author.Needs.{needs}
 use Rattle.automaton.specs.Below.{listBelow}
 use Rattle.definitions.specs.Bytes.{byte}
 use Rattle.bookcheck.specs.Entries.{lesser}
-use Rattle.automaton.proofs.Filling.{Filled, filled-begun, filled-next, filled-turn, filled-done}
+use Rattle.automaton.proofs.FilledList.{Filled, filled-begun, filled-next, filled-turn, filled-done}
 use Rattle.bookcheck.proofs.lower.Statement.{statement}
 use Rattle.bookcheck.proofs.lower.Tie as tie
 

@@ -1,5 +1,5 @@
 -- `clear` meets its contract: the sets passed so far are empty.
-use Rattle.automaton.proofs.Filling.{Filled, filled-begun, filled-turn, filled-done}
+use Rattle.automaton.proofs.FilledList.{Filled, filled-begun, filled-turn, filled-done}
 use Rattle.explore.specs.SetImages.{noSet}
 use lib.ListN.{length, length-set}
 use native.Mathlib.Omega.{arith}

@@ -2,10 +2,10 @@
 use Rattle.explore.proofs.ReachedStates.{StatesReached, reached-begun, reaches-from, reached-long, reached-row, reached-over, reached-turn, reached-done}
 use Rattle.definitions.proofs.SearchArray.{searched-room, searched-state}
 use Rattle.automaton.proofs.Loops.{part-is-drop}
-use Rattle.automaton.proofs.Machines.{is-state}
+use Rattle.automaton.proofs.Machine.{is-state}
 use Rattle.explore.specs.Reaches.{allReached}
 use Rattle.explore.specs.SetImages.{imagesMachine}
-use Rattle.automaton.proofs.Exploring.{Sound, reached-sound}
+use Rattle.automaton.proofs.Explore.{Sound, reached-sound}
 use Rattle.automaton.specs.Explore.{reached}
 use Rattle.automaton.specs.Machine.{Machine, isState}
 use borrow.Rule.Slice.PartMut.{same-len-mid}

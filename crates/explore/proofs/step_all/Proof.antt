@@ -1,7 +1,7 @@
 -- `step_all` meets its contract: the row has the images of the valuations passed so far.
 use Rattle.explore.proofs.SetRows.{images-more}
 use Rattle.explore.specs.SetImages.{emptySets, imagesOfSet, imageOfSetIn, withImages}
-use Rattle.automaton.proofs.Counting.{length-list-below}
+use Rattle.automaton.proofs.Below.{length-list-below}
 use Rattle.automaton.proofs.Loops.{row-within}
 use lib.ListN.{length}
 use native.Mathlib.Omega.{arith}

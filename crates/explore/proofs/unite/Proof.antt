@@ -1,5 +1,5 @@
 -- `unite` meets its contract: the sets passed so far are united.
-use Rattle.automaton.proofs.Filling.{Filled, filled-begun, filled-next, filled-turn, filled-done}
+use Rattle.automaton.proofs.FilledList.{Filled, filled-begun, filled-next, filled-turn, filled-done}
 use Rattle.explore.specs.SetImages.{unionAt}
 use lib.ListN.{length, getD, length-set}
 use Rattle.definitions.specs.Situation.{union}

@@ -1,9 +1,9 @@
 -- `visit` meets its contract: after c turns the codes below c have been tried.
-use Rattle.explore.proofs.Visits.{CodesTried, tried-begun, tried-room, tried-once, tried-row, tried-low, tried-turn, tried-over, tried-done}
+use Rattle.explore.proofs.SituationVisits.{CodesTried, tried-begun, tried-room, tried-once, tried-row, tried-low, tried-turn, tried-over, tried-done}
 use Rattle.explore.proofs.SetRows.{row-step}
 use Rattle.explore.specs.SetImages.{imageOfSetIn, imagesOfSet, imagesMachine}
 use Rattle.automaton.specs.Machine.{step}
-use Rattle.automaton.proofs.Counting.{length-list-below}
+use Rattle.automaton.proofs.Below.{length-list-below}
 use lib.ListN.{length, getD, take, length-set}
 use native.Mathlib.Omega.{arith}
 use Prim.Native.Nat.{ℕ, _-_, _<_, _≤_}

@@ -4,7 +4,7 @@ use Prim.Native.Nat.{ℕ, _≤_, _<_, _-_}
 use native.Mathlib.Omega.{arith}
 use lib.ListN.{length}
 use borrow.Author.Needs.{needs}
-use Rattle.automaton.proofs.Filling.{Filled, filled-begun, filled-turn}
+use Rattle.automaton.proofs.FilledList.{Filled, filled-begun, filled-turn}
 use Rattle.automaton.proofs.Loops.{row-within}
 use Rattle.definitions.specs.Policy.{events}
 use Rattle.definitions.specs.Situation.{emptySet, insert}

@@ -41,7 +41,7 @@ use Rattle.walk.proofs.open.Symbol as callee-def
 use Rattle.walk.proofs.open.Symbol.{name as #walk·open}
 use Rattle.walk.proofs.open.Met as callee-thm
 use Rattle.opened.specs.declared.Opened.{Opened}
-use Rattle.opened.specs.Calls.{answered, openOf}
+use Rattle.opened.specs.OpenedCalls.{answered, openOf}
 use Rattle.opened.proofs.Opened as O
 use Rattle.opened.proofs.Opened.Laws as O′
 use Rattle.opened.proofs.OpenedBook as T

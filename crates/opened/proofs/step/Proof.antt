@@ -42,7 +42,7 @@ use Rattle.walk.proofs.step.Symbol.{name as #walk·step}
 use Rattle.walk.proofs.step.Met as callee-thm
 use Rattle.opened.specs.declared.OpenedBook.{OpenedBook}
 use Rattle.opened.specs.declared.Opened.{Opened}
-use Rattle.opened.specs.Calls.{answered, stepOf}
+use Rattle.opened.specs.OpenedCalls.{answered, stepOf}
 use Rattle.opened.proofs.Opened as O
 use Rattle.opened.proofs.Opened.Laws as O′
 use Rattle.opened.proofs.OpenedBook as T

@@ -5,7 +5,7 @@ use borrow.Author.Needs.{needs}
 use Rattle.definitions.specs.Refusal.{fileChecks, fileRefusal}
 use Rattle.definitions.proofs.Tests.{failed, held}
 use Rattle.definitions.proofs.CheckLists.{PassedBefore, row-refuses, rows-from}
-use Rattle.policy.proofs.Checked.{sized}
+use Rattle.policy.proofs.PassedFile.{sized}
 use Rattle.policycheck.proofs.file_refusal.Statement.{statement}
 use Rattle.policycheck.proofs.file_refusal.Tie as tie
 

@@ -4,7 +4,7 @@ use native.Mathlib.Omega.{arith}
 use mathlib.Core.Path.{refl}
 use lib.ListN.{length}
 use Rattle.comparelabels.specs.LabelBytes.{itself}
-use Rattle.automaton.proofs.Filling.{Filled, filled-begun, filled-turn, filled-done}
+use Rattle.automaton.proofs.FilledList.{Filled, filled-begun, filled-turn, filled-done}
 use borrow.Author.Needs.{needs}
 use Rattle.comparelabels.proofs.label_bytes.own_labels.Statement.{statement}
 use Rattle.comparelabels.proofs.label_bytes.own_labels.Tie as tie

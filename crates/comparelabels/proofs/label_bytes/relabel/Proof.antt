@@ -4,7 +4,7 @@ use native.Mathlib.Omega.{arith}
 use mathlib.Core.Path.{ap, _∙_}
 use lib.ListN.{length}
 use Rattle.comparelabels.specs.LabelBytes.{moved}
-use Rattle.automaton.proofs.Filling.{Filled, elsewhere, filled-begun, filled-next, filled-turn, filled-done, map-below}
+use Rattle.automaton.proofs.FilledList.{Filled, elsewhere, filled-begun, filled-next, filled-turn, filled-done, map-below}
 use borrow.Author.Needs.{needs}
 use Rattle.comparelabels.proofs.label_bytes.relabel.Statement.{statement}
 use Rattle.comparelabels.proofs.label_bytes.relabel.Tie as tie

@@ -4,7 +4,7 @@ use Prim.Native.Nat.{_≤_, _-_, _*_}
 use native.Mathlib.Omega.{arith}
 use lib.ListN.{length, getD, length-set}
 use borrow.Author.Needs.{needs}
-use Rattle.automaton.proofs.Filling.{Filled, filled-begun}
+use Rattle.automaton.proofs.FilledList.{Filled, filled-begun}
 use Rattle.rules.proofs.Arrays.{filled-tabled}
 use Rattle.images.specs.Choice.{chosenFor}
 use Rattle.images.proofs.Choices.{listed-both, decided-turn}

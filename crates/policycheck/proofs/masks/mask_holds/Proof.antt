@@ -3,7 +3,7 @@ use Prim.Native.Nat.{_<_}
 use native.Mathlib.Omega.{arith}
 use borrow.Author.Needs.{needs}
 use Rattle.definitions.proofs.Sets.{one-shifted}
-use Rattle.policy.proofs.Checked.{count-in-range}
+use Rattle.policy.proofs.PassedFile.{count-in-range}
 use Rattle.policycheck.proofs.masks.mask_holds.Statement.{statement}
 use Rattle.policycheck.proofs.masks.mask_holds.Tie as tie
 

@@ -4,7 +4,7 @@ use Prim.Native.Nat.{_≤_, _<_, _-_, _+_, _/_}
 use native.Mathlib.Omega.{arith}
 use lib.ListN.{getD}
 use borrow.Author.Needs.{needs}
-use Rattle.automaton.proofs.Filling.{Filled, filled-begun, filled-turn}
+use Rattle.automaton.proofs.FilledList.{Filled, filled-begun, filled-turn}
 use Rattle.definitions.specs.Policy.{variables}
 use Rattle.definitions.specs.Valuation.{bound, worth, valuesOf, variableIn}
 use Rattle.rules.proofs.Arrays.{filled-tabled}

@@ -2,7 +2,7 @@
 use native.Mathlib.Omega.{arith}
 use Prim.Native.Nat.{_≤_, _-_}
 use borrow.Author.Needs.{needs}
-use Rattle.policy.proofs.Checked.{count-in-range}
+use Rattle.policy.proofs.PassedFile.{count-in-range}
 use Rattle.rules.proofs.Values.{Taken, taken-begun, taken-turn, taken-done}
 use Rattle.rules.proofs.matching.fill_values.Statement.{statement}
 use Rattle.rules.proofs.matching.fill_values.Tie as tie

@@ -5,13 +5,13 @@ use native.Mathlib.Omega.{arith}
 use denote.Ref.{now}
 use lib.ListN.{length, length-set, length-replicate}
 use borrow.Author.Needs.{needs}
-use Rattle.search.proofs.Visits.{Searched, searched-begun, searched-few, searched-next, searched-turn, searched-done}
+use Rattle.search.proofs.SearchTurns.{SearchTurn, searched-begun, searched-few, searched-next, searched-turn, searched-done}
 use Rattle.search.proofs.breadth_first.explore.Statement.{statement}
 use Rattle.search.proofs.breadth_first.explore.Tie as tie
 
 abbrev Inv-loop : tie.InvT-loop
 Inv-loop rows width order₀ trail₀ numbers₀ n₀ i₀ order trail numbers n i =
-    Searched rows width n i order trail numbers × (length order ≡ length order₀) × (length trail ≡ length trail₀) × (length numbers ≡ 128)
+    SearchTurn rows width n i order trail numbers × (length order ≡ length order₀) × (length trail ≡ length trail₀) × (length numbers ≡ 128)
 
 abbrev μ-loop : tie.MeasureT-loop
 μ-loop rows width order₀ trail₀ numbers₀ n₀ i₀ order trail numbers n i = 128 - i

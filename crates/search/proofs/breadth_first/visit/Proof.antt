@@ -5,7 +5,7 @@ use native.Mathlib.Omega.{arith}
 use denote.Ref.{now}
 use lib.ListN.{length}
 use borrow.Author.Needs.{needs}
-use Rattle.search.proofs.Visits.{Tried, tried-begun, tried-low, tried-row, tried-asks, tried-turn, tried-done}
+use Rattle.search.proofs.SearchTurns.{Tried, tried-begun, tried-low, tried-row, tried-asks, tried-turn, tried-done}
 use Rattle.search.proofs.breadth_first.visit.Statement.{statement}
 use Rattle.search.proofs.breadth_first.visit.Tie as tie
 

@@ -5,7 +5,7 @@ use Prim.Native.Nat.{_-_, _≤_}
 use native.Mathlib.Omega.{arith}
 use borrow.Author.Count.{below-more}
 use Rattle.automaton.specs.Machine.{isState}
-use Rattle.automaton.proofs.Counting.{any-below}
+use Rattle.automaton.proofs.Below.{any-below}
 use Rattle.definitions.specs.Bytes.{byte}
 use Rattle.definitions.proofs.BookSteps.{is-state}
 use Rattle.verdict.specs.Marks.{markedSuccessor}

@@ -11,7 +11,7 @@ use borrow.Author.Tests.{lt-ltb, le-ltb}
 use Rattle.automaton.specs.History.{History}
 use Rattle.automaton.specs.Machine.{Machine, step, after, isState, possible, SameHistories}
 use Rattle.automaton.specs.Table.{entryIn, tabled}
-use Rattle.automaton.proofs.Machines.{is-state, state-is, after-append}
+use Rattle.automaton.proofs.Machine.{is-state, state-is, after-append}
 use Rattle.automaton.proofs.WellFormed.{IsTable, step-entry}
 use Rattle.automaton.proofs.Minimal.{TidyTableOf, built, built-length, built-unique}
 use Rattle.definitions.specs.Policy as P

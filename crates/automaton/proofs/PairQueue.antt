@@ -11,13 +11,13 @@ use lib.Dec.{T}
 use Rattle.automaton.specs.History.{History, Earlier, NotLater, Earliest}
 use Rattle.automaton.specs.Machine.{Machine, step, after, Alike, inOne, Distinguishes}
 use Rattle.automaton.proofs.Order.{tri, earlier-trans, earlier-append, earlier-code, earlier-longer, not-later-refl, not-later-trans, not-later-append, not-later-code, not-later-longer}
-use Rattle.automaton.proofs.Machines.{step-past, after-append, after-zero, alike-of-not-distinguished}
-use Rattle.automaton.proofs.Counting.{below-suc, count-below-le}
-use Rattle.automaton.specs.Parents.{trail, Falls}
+use Rattle.automaton.proofs.Machine.{step-past, after-append, after-zero, alike-of-not-distinguished}
+use Rattle.automaton.proofs.Below.{below-suc, count-below-le}
+use Rattle.automaton.specs.Parents.{trail, EarlierParents}
 use Rattle.automaton.proofs.Parents.{Stored, trail-start, trail-same, trail-last, falls-stored}
 use Rattle.automaton.specs.Labels.{Among, Rooted, Divides, labels, ownLabel}
 use Rattle.automaton.proofs.Labels.{Merged, own-rooted, own-undivided, some-label, merge-rooted, merge-fewer, merge-divides}
-use Rattle.automaton.proofs.Separating.{HasStates, Separates, separates-after, states-apart, states-not-apart, told-apart-at}
+use Rattle.automaton.proofs.Separation.{HasStates, Separates, separates-after, states-apart, states-not-apart, told-apart-at}
 use Rattle.automaton.specs.PairQueue.{possibleAt, Pair, Queue, pairAt, IsPair, Apart, IsQueue, Done, Search}
 
 -- the states x and y are put at place m of the queue: code c leads to them from pair i
@@ -31,7 +31,7 @@ first-pair : (q : Queue) (x y : ℕ) → q .left 0 ≡ x → q .right 0 ≡ y �
 unfolding pairAt
 first-pair q x y ex ey = λ j. record { left = ex j; right = ey j; history = trail-start (q .parent) (q .code) j }
 
-module _ (m i c x y : ℕ) (old new : Queue) (added : Added m i c x y old new) (falls : Falls m (old .parent)) where
+module _ (m i c x y : ℕ) (old new : Queue) (added : Added m i c x y old new) (falls : EarlierParents m (old .parent)) where
   same-pair : (k : ℕ) → k < m → pairAt new k ≡ pairAt old k
   unfolding pairAt
   same-pair k l = λ j. record {

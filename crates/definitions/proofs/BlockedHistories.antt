@@ -13,11 +13,11 @@ use borrow.Author.Tests.{lt-ltb}
 use Rattle.automaton.specs.History.{History}
 use Rattle.automaton.specs.Machine.{step, after, isState, possible}
 use Rattle.automaton.specs.Explore.{Reached, reached, firstThat}
-use Rattle.automaton.proofs.Counting.{any-below, any-below-at}
-use Rattle.automaton.proofs.Machines.{step-past, after-append, possible-codes}
-use Rattle.automaton.proofs.Exploring.{reached-few}
+use Rattle.automaton.proofs.Below.{any-below, any-below-at}
+use Rattle.automaton.proofs.Machine.{step-past, after-append, possible-codes}
+use Rattle.automaton.proofs.Explore.{reached-few}
 use Rattle.automaton.proofs.Earliest.{Explored, reached-explored, Passes, first-earliest, first-none}
-use Rattle.automaton.proofs.Separating.{after-within}
+use Rattle.automaton.proofs.Separation.{after-within}
 use Rattle.definitions.specs.Codes.{acceptCode, rejectCode}
 use Rattle.definitions.specs.Book.{events, requests, width, states, bookMachine}
 use Rattle.definitions.specs.Telling.{acceptable, rejectable, answered, someRequest}

@@ -16,7 +16,7 @@ use Rattle.definitions.specs.Book as B
 use Rattle.definitions.specs.Refusal.{Accepted}
 use Rattle.definitions.specs.Build.{bookRows, bookOf}
 use Rattle.definitions.specs.Demands.{SameAfter, StatesAreRight}
-use Rattle.definitions.proofs.Built.{rows-tidy, built-states, built-after}
+use Rattle.definitions.proofs.BookOf.{rows-tidy, built-states, built-after}
 
 module _ (p : List ℕ) (accepted : Accepted p) where
   abbrev rows : List (List ℕ)

@@ -6,7 +6,7 @@ use Prim.Native.Nat.{ℕ, _<_, _≤_}
 use lib.Dec.{eqb}
 use lib.ListN.{length}
 use borrow.Author.Tests.{le-leb, eqb-true}
-use Rattle.automaton.proofs.Counting.{all-below}
+use Rattle.automaton.proofs.Below.{all-below}
 use Rattle.definitions.specs.Policy.{events, fields, variables, rules, count, requests, exactLength}
 use Rattle.definitions.specs.Refusal.{fileRefusal, rangesHold, countInRange, countsHold}
 use Rattle.definitions.proofs.Tests.{both-true, within-true}

@@ -12,7 +12,7 @@ use lib.Dec.{T, eqb, ltb}
 use lib.ListN.{length, getD, length-append, List·getD-append}
 use lib.Seq.{getD-at}
 use borrow.Author.Tests.{eqb-true, eq-eqb, ltb-true, ltb-false}
-use Rattle.automaton.specs.Below.{allBelow, anyBelow, lowestBelow, foldBelow, listBelow, sameList, oneOn, placeOf, one, countBelow}
+use Rattle.automaton.specs.Below.{allBelow, anyBelow, lowestBelow, foldBelow, listBelow, sameList, sucPositive, placeOf, one, countBelow}
 
 -- a number below n + 1 is below n or is n
 pub below-suc : (k n : ℕ) → k < suc n → (k < n) ⊎ (k ≡ n)
@@ -142,11 +142,11 @@ same-list-true (x ∷ xs) (y ∷ ys) e =
     let tail : xs ≡ ys = same-list-true xs ys (both .1) in
     cc
 
-one-on-suc : (p k : ℕ) → oneOn p ≡ suc k → (j : ℕ) × (p ≡ suc j) × (k ≡ suc j)
+one-on-suc : (p k : ℕ) → sucPositive p ≡ suc k → (j : ℕ) × (p ≡ suc j) × (k ≡ suc j)
 one-on-suc zero k e = absurd (omega arith)
 one-on-suc (suc p) k e = (p, refl, omega arith)
 
-one-on-zero : (p : ℕ) → oneOn p ≡ 0 → p ≡ 0
+one-on-zero : (p : ℕ) → sucPositive p ≡ 0 → p ≡ 0
 one-on-zero zero e = refl
 one-on-zero (suc p) e = absurd (omega arith)
 
@@ -157,23 +157,23 @@ module _ {A : Type 0} (f : A → Bool) where
   place-append [] ys k e = absurd (omega arith)
   place-append (x ∷ xs) ys k e = go (f x) e (place-append xs ys)
     where
-      go : (b : Bool) → cond b 1 (oneOn (placeOf f xs)) ≡ suc k → ((k : ℕ) → placeOf f xs ≡ suc k → placeOf f (xs ++ ys) ≡ suc k)
-          → cond b 1 (oneOn (placeOf f (xs ++ ys))) ≡ suc k
+      go : (b : Bool) → cond b 1 (sucPositive (placeOf f xs)) ≡ suc k → ((k : ℕ) → placeOf f xs ≡ suc k → placeOf f (xs ++ ys) ≡ suc k)
+          → cond b 1 (sucPositive (placeOf f (xs ++ ys))) ≡ suc k
       go true e ih = e
       go false e ih = let r = one-on-suc (placeOf f xs) k e in rw (ih (r .0) (r .1)) (ap suc (sym (r .2)))
 
   -- one that does not pass at its end changes nothing
   pub place-other : (xs : List A) (x : A) → f x ≡ false → placeOf f (xs ++ (x ∷ [])) ≡ placeOf f xs
   place-other [] x e = rw e
-  place-other (y ∷ xs) x e = ap (λ (n : ℕ). cond (f y) 1 (oneOn n)) (place-other xs x e)
+  place-other (y ∷ xs) x e = ap (λ (n : ℕ). cond (f y) 1 (sucPositive n)) (place-other xs x e)
 
   -- and the first that passes may come last
   pub place-end : (xs : List A) (x : A) → placeOf f xs ≡ 0 → f x ≡ true → placeOf f (xs ++ (x ∷ [])) ≡ suc (length xs)
   place-end [] x e q = rw q
   place-end (y ∷ xs) x e q = go (f y) e (λ p. place-end xs x p q)
     where
-      go : (b : Bool) → cond b 1 (oneOn (placeOf f xs)) ≡ 0 → (placeOf f xs ≡ 0 → placeOf f (xs ++ (x ∷ [])) ≡ suc (length xs))
-          → cond b 1 (oneOn (placeOf f (xs ++ (x ∷ [])))) ≡ suc (suc (length xs))
+      go : (b : Bool) → cond b 1 (sucPositive (placeOf f xs)) ≡ 0 → (placeOf f xs ≡ 0 → placeOf f (xs ++ (x ∷ [])) ≡ suc (length xs))
+          → cond b 1 (sucPositive (placeOf f (xs ++ (x ∷ [])))) ≡ suc (suc (length xs))
       go true e ih = absurd (omega arith)
       go false e ih = rw (ih (one-on-zero (placeOf f xs) e))
 
@@ -182,7 +182,7 @@ module _ {A : Type 0} (f : A → Bool) where
     place-hit [] k e = absurd (omega arith)
     place-hit (x ∷ xs) k e = go k (f x) refl e (place-hit xs)
       where
-        go : (k : ℕ) (b : Bool) → f x ≡ b → cond b 1 (oneOn (placeOf f xs)) ≡ suc k
+        go : (k : ℕ) (b : Bool) → f x ≡ b → cond b 1 (sucPositive (placeOf f xs)) ≡ suc k
             → ((k : ℕ) → placeOf f xs ≡ suc k → (k < length xs) × (f (getD xs k d) ≡ true)) → (k < suc (length xs)) × (f (getD (x ∷ xs) k d) ≡ true)
         go zero true q e ih = (omega arith, q)
         go (suc k) true q e ih = absurd (omega arith)
@@ -196,7 +196,7 @@ module _ {A : Type 0} (f : A → Bool) where
     place-none [] e k l = absurd (not-suc-le-zero l)
     place-none (x ∷ xs) e k l = go k l (f x) refl e (place-none xs)
       where
-        go : (k : ℕ) → k < suc (length xs) → (b : Bool) → f x ≡ b → cond b 1 (oneOn (placeOf f xs)) ≡ 0
+        go : (k : ℕ) → k < suc (length xs) → (b : Bool) → f x ≡ b → cond b 1 (sucPositive (placeOf f xs)) ≡ 0
             → (placeOf f xs ≡ 0 → (k : ℕ) → k < length xs → f (getD xs k d) ≡ false) → f (getD (x ∷ xs) k d) ≡ false
         go k l true q e ih = absurd (omega arith)
         go zero l false q e ih = q
@@ -206,7 +206,7 @@ module _ {A : Type 0} (f : A → Bool) where
     place-first [] k e j l = absurd (omega arith)
     place-first (x ∷ xs) k e j l = go j l (f x) refl e (place-first xs)
       where
-        go : (j : ℕ) → j < k → (b : Bool) → f x ≡ b → cond b 1 (oneOn (placeOf f xs)) ≡ suc k
+        go : (j : ℕ) → j < k → (b : Bool) → f x ≡ b → cond b 1 (sucPositive (placeOf f xs)) ≡ suc k
             → ((k : ℕ) → placeOf f xs ≡ suc k → (j : ℕ) → j < k → f (getD xs j d) ≡ false) → f (getD (x ∷ xs) j d) ≡ false
         go j l true q e ih = absurd (omega arith)
         go zero l false q e ih = q

@@ -20,7 +20,7 @@ use Rattle.compare.specs.declared.Compared.{Compared}
 use Rattle.compare.specs.declared.Compared.the-variants as Compared
 use Rattle.compare.proofs.ComparedAnswer.{difference-small}
 use Rattle.policybook.proofs.RefusalBounds.{book-small}
-use Rattle.policybook.specs.AnswerBounds.{BuiltWithin, ComparedWithin}
+use Rattle.policybook.specs.PackedBounds.{BuiltWithin, ComparedWithin}
 
 -- ---- build
 module _ (p buffer : List ℕ) where

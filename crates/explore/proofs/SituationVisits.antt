@@ -9,13 +9,13 @@ use lib.Seq.{length-take-le}
 use Rattle.automaton.specs.Below.{listBelow}
 use Rattle.automaton.specs.Machine.{Machine, step}
 use Rattle.automaton.specs.Explore.{visit}
-use Rattle.automaton.proofs.Counting.{length-list-below}
+use Rattle.automaton.proofs.Below.{length-list-below}
 use Rattle.definitions.specs.Answer.{written}
 use Rattle.automaton.specs.StateList.{stateList, bare, numberAmong, addState, afterCodes, rowAmong}
 use Rattle.explore.specs.Reaches.{Once, VisitedState}
 use Rattle.automaton.proofs.StateList.{states-bare, number-states, number-low, added-length, added-few, after-more, after-grows}
 use Rattle.automaton.proofs.Congruence.{list-below-same}
-use Rattle.automaton.proofs.Turns.{visit-grows}
+use Rattle.automaton.proofs.RemainingSearch.{visit-grows}
 use Rattle.explore.proofs.Once.{once-after}
 use Rattle.automaton.proofs.KeptNumbers.{visit-stays}
 use Rattle.definitions.proofs.Written.{take-written, length-written, written-next, written-again, written-take}

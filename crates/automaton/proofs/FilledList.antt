@@ -7,7 +7,7 @@ use native.Mathlib.Omega.{arith}
 use lib.ListN.{length, getD, set, drop, length-map, length-set, drop-of-length-le}
 use lib.Seq.{drop-cons, append-snoc, set-at, getD-at, ext-getD}
 use Rattle.automaton.specs.Below.{listBelow}
-use Rattle.automaton.proofs.Counting.{length-list-below, getD-list-below}
+use Rattle.automaton.proofs.Below.{length-list-below, getD-list-below}
 use Rattle.automaton.proofs.WellFormed.{getD-map-within}
 
 -- the first i places are filled, and the others are as they were

@@ -13,8 +13,8 @@ use borrow.Author.Tests.{le-leb, lt-leb}
 use Rattle.automaton.specs.History.{History, NotLater, Earliest}
 use Rattle.automaton.specs.Machine.{Machine, step, after, isState, possibleFrom, possible, Alike, inOne, Distinguishes}
 use Rattle.automaton.proofs.Order.{earliest-unique}
-use Rattle.automaton.proofs.Machines.{after-append, after-zero, after-keeps, not-distinguished-of-alike}
-use Rattle.automaton.proofs.Counting.{count-below-le}
+use Rattle.automaton.proofs.Machine.{after-append, after-zero, after-keeps, not-distinguished-of-alike}
+use Rattle.automaton.proofs.Below.{count-below-le}
 use Rattle.automaton.specs.Labels.{Among, Rooted, Divides, labels, ownLabel}
 use Rattle.automaton.proofs.Labels.{merge, own-rooted, own-undivided, some-label, merge-rooted, merge-fewer, merge-divides}
 use Rattle.automaton.specs.PairQueue.{possibleAt}

@@ -16,10 +16,10 @@ use Rattle.automaton.specs.Ordered.{Before, Ordered}
 use Rattle.automaton.specs.Table.{rowOf, rowAt, table, entryIn, tabled}
 use Rattle.automaton.proofs.Order.{tri, earlier-irrefl, earlier-trans, earlier-tri, earlier-index, earlier-append, earlier-code, earlier-not-later}
 use Rattle.automaton.proofs.Numbered.{Numbered}
-use Rattle.automaton.proofs.Machines.{step-past, after-map-on}
-use Rattle.automaton.proofs.Counting.{length-list-below, getD-list-below}
+use Rattle.automaton.proofs.Machine.{step-past, after-map-on}
+use Rattle.automaton.proofs.Below.{length-list-below, getD-list-below}
 use Rattle.automaton.proofs.WellFormed.{Wide, IsTable, getD-map-within, entry-beyond, step-entry, step-inside, after-inside}
-use Rattle.automaton.proofs.Exploring.{stateAt, historyAt, number-hit, Sound, Follows, reached-sound}
+use Rattle.automaton.proofs.Explore.{stateAt, historyAt, number-hit, Sound, Follows, reached-sound}
 use Rattle.automaton.proofs.Earliest.{FoundBy, Explored, reached-explored, reached-closed}
 use Rattle.automaton.proofs.Tidy.{Tidy}
 

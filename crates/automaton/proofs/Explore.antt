@@ -14,8 +14,8 @@ use borrow.Author.Tests.{eqb-true, eq-eqb, ltb-true, ltb-false}
 use Rattle.automaton.specs.History.{History}
 use Rattle.automaton.specs.Machine.{Machine, step, after, isState}
 use Rattle.automaton.specs.Explore.{Reached, isAt, numberIn, add, visit, unreached, explore, startOf, reached}
-use Rattle.automaton.proofs.Machines.{after-append, state-is}
-use Rattle.automaton.proofs.Counting.{below-suc, place-hit, place-append, place-end, distinct-below}
+use Rattle.automaton.proofs.Machine.{after-append, state-is}
+use Rattle.automaton.proofs.Below.{below-suc, place-hit, place-append, place-end, distinct-below}
 
 abbrev pub stateAt : List Reached → ℕ → ℕ
 stateAt found k = getD found k unreached .state

@@ -18,11 +18,11 @@ use Rattle.automaton.specs.Machine.{Machine, step, after, isState, Alike
 use Rattle.automaton.specs.Explore.{Reached, reached, firstThat}
 use Rattle.automaton.specs.Pair.{pair, beside, differsBy, differs, lastCode, difference}
 use Rattle.automaton.proofs.Order.{earlier-append, not-later-trans, not-later-code, not-later-longer}
-use Rattle.automaton.proofs.Machines.{is-state, step-past, after-zero, alike-of-not-distinguished}
-use Rattle.automaton.proofs.Counting.{is-true, any-below, any-below-at, lowest-below, lowest-below-le}
-use Rattle.automaton.proofs.Exploring.{reached-few}
+use Rattle.automaton.proofs.Machine.{is-state, step-past, after-zero, alike-of-not-distinguished}
+use Rattle.automaton.proofs.Below.{is-true, any-below, any-below-at, lowest-below, lowest-below-le}
+use Rattle.automaton.proofs.Explore.{reached-few}
 use Rattle.automaton.proofs.Earliest.{Passes, Explored, reached-explored, first-earliest, first-none}
-use Rattle.automaton.proofs.Separating.{HasStates, Separates, Answers, answers-unique, after-within, separates-after, earliest-short, earliest-some}
+use Rattle.automaton.proofs.Separation.{HasStates, Separates, Answers, answers-unique, after-within, separates-after, earliest-short, earliest-some}
 
 step-state : (m : Machine) (s c : ℕ) → 1 ≤ s → step m s c ≡ cond (ltb c (m .width)) (m .next s c) 0
 step-state m zero c p = absurd (omega arith)

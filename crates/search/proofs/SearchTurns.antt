@@ -9,9 +9,9 @@ use lib.Seq.{getD-set-same, getD-set-other}
 use borrow.Author.Tests.{ne-eqb}
 use Rattle.automaton.specs.Machine.{Machine, step}
 use Rattle.automaton.specs.Explore.{Reached, add, visit, unreached, startOf, reached}
-use Rattle.automaton.proofs.Exploring.{Front, front-at, front-length, visit-front}
+use Rattle.automaton.proofs.Explore.{Front, front-at, front-length, visit-front}
 use Rattle.automaton.proofs.Parents.{trail-start}
-use Rattle.automaton.proofs.Turns.{visit-grows, ToCome, to-come-begun, to-come-turn, to-come-front, to-come-done}
+use Rattle.automaton.proofs.RemainingSearch.{visit-grows, Remains, remains-begun, remains-turn, remains-front, remains-done}
 use Rattle.definitions.specs.Bytes.{byte}
 use Rattle.definitions.proofs.TableBytes.{state-row, state-entry}
 use Rattle.search.specs.Trail.{firstAt, secondAt, historyAt}
@@ -87,13 +87,13 @@ module _ {rows : List ℕ} {w : ℕ} {order₀ trail₀ : List ℕ} {n i : ℕ} 
       tried-turn S = record { are = rw next at S; within = omega arith }
 
 -- ---- the states one after another: i have been visited, n are found, and the rest of the search finds the others
-pub record Searched (rows : List ℕ) (w n i : ℕ) (order trail numbers : List ℕ) : Type 0 where
+pub record SearchTurn (rows : List ℕ) (w n i : ℕ) (order trail numbers : List ℕ) : Type 0 where
   pub are : Arrays (foundIn n order trail) n order trail numbers
   pub within : i ≤ n
-  pub come : ToCome (rowsMachine rows w) 127 (statesOf rows w) i (foundIn n order trail)
+  pub come : Remains (rowsMachine rows w) 127 (statesOf rows w) i (foundIn n order trail)
 
-come-begun : (m : Machine) (most : ℕ) (L found : List Reached) → found ≡ startOf m → reached m most ≡ L → ToCome m most L 0 found
-come-begun m most L found e all = rw e (to-come-begun m most L all)
+come-begun : (m : Machine) (most : ℕ) (L found : List Reached) → found ≡ startOf m → reached m most ≡ L → Remains m most L 0 found
+come-begun m most L found e all = rw e (remains-begun m most L all)
 
 all-states : (rows : List ℕ) (w : ℕ) → reached (rowsMachine rows w) 127 ≡ statesOf rows w
 unfolding statesOf
@@ -101,7 +101,7 @@ all-states rows w = refl
 
 -- state 1 is found
 pub searched-begun : (rows : List ℕ) (w : ℕ) (order trail : List ℕ) → 128 ≤ length order → 256 ≤ length trail
-    → Searched rows w 1 0 (set order 0 1) trail (set (set (replicate 128 0) 0 1) 1 1)
+    → SearchTurn rows w 1 0 (set order 0 1) trail (set (set (replicate 128 0) 0 1) 1 1)
 unfolding foundIn
 searched-begun rows w order trail roomOrder roomTrail = record {
   are = rw first (record {
@@ -128,19 +128,19 @@ searched-begun rows w order trail roomOrder roomTrail = record {
         getD-set-other (set (replicate 128 0) 0 1) 1 (suc (suc s)) 1 0 (λ e. omega arith) ∙ getD-set-other (replicate 128 0) 0 (suc (suc s)) 1 0 (λ e. omega arith)
         ∙ getD-replicate 128 (suc (suc s)) 0 0 l ∙ rw (ne-eqb (suc (suc s)) 1 (λ e. omega arith))
 
-module _ (rows : List ℕ) (w : ℕ) (small : SmallTable rows w) {n i : ℕ} {order trail numbers : List ℕ} (S : Searched rows w n i order trail numbers) where
+module _ (rows : List ℕ) (w : ℕ) (small : SmallTable rows w) {n i : ℕ} {order trail numbers : List ℕ} (S : SearchTurn rows w n i order trail numbers) where
   abbrev found : List Reached
   found = foundIn n order trail
 
   front : Front found (statesOf rows w)
-  front = to-come-front (rowsMachine rows w) 127 (statesOf rows w) i found (S .come)
+  front = remains-front (rowsMachine rows w) 127 (statesOf rows w) i found (S .come)
 
   pub searched-few : n ≤ 127
   searched-few = omega (arith, small .few, states-few rows w small, front-length front, found-length order trail n)
 
   pub searched-done : n ≤ i → Holds (statesOf rows w) n order trail
   searched-done l = record {
-    are = to-come-done (rowsMachine rows w) 127 (statesOf rows w) i found (omega (arith, found-length order trail n)) (S .come);
+    are = remains-done (rowsMachine rows w) 127 (statesOf rows w) i found (omega (arith, found-length order trail n)) (S .come);
     falls = S .are .holds .falls;
   }
 
@@ -148,8 +148,8 @@ module _ (rows : List ℕ) (w : ℕ) (small : SmallTable rows w) {n i : ℕ} {or
     here : getD found i unreached ≡ reachedAt order trail i
     here = found-at order trail n i b
 
-    come-on : ToCome (rowsMachine rows w) 127 (statesOf rows w) (suc i) (visitedAt rows w order trail n i)
-    come-on = rw (← here) (to-come-turn (rowsMachine rows w) 127 (statesOf rows w) i found (omega (arith, found-length order trail n)) (omega (arith, searched-few)) (S .come))
+    come-on : Remains (rowsMachine rows w) 127 (statesOf rows w) (suc i) (visitedAt rows w order trail n i)
+    come-on = rw (← here) (remains-turn (rowsMachine rows w) 127 (statesOf rows w) i found (omega (arith, found-length order trail n)) (omega (arith, searched-few)) (S .come))
 
     state : (1 ≤ byte order i) × (byte order i ≤ length rows / w)
     state =
@@ -162,11 +162,11 @@ module _ (rows : List ℕ) (w : ℕ) (small : SmallTable rows w) {n i : ℕ} {or
       before = b;
       some = state .0;
       most = state .1;
-      room = omega (arith, small .few, states-few rows w small, front-length (to-come-front (rowsMachine rows w) 127 (statesOf rows w) (suc i) (visitedAt rows w order trail n i) come-on));
+      room = omega (arith, small .few, states-few rows w small, front-length (remains-front (rowsMachine rows w) 127 (statesOf rows w) (suc i) (visitedAt rows w order trail n i) come-on));
     }
 
     pub searched-turn : {r : ℕ} {order′ trail′ numbers′ : List ℕ} → Arrays (visitedAt rows w order trail n i) r order′ trail′ numbers′
-        → Searched rows w r (i + 1) order′ trail′ numbers′
+        → SearchTurn rows w r (i + 1) order′ trail′ numbers′
     searched-turn T = record {
       are = as-found T;
       within = omega (arith, front-length (visit-front (rowsMachine rows w) (reachedAt order trail i) w found), found-length order trail n, holds-length (T .holds));

@@ -15,9 +15,9 @@ use Rattle.automaton.specs.Machine.{Alike}
 use Rattle.automaton.specs.Table.{tabled}
 use Rattle.automaton.specs.Join.{classOf, refine, classesAfter, classes}
 use Rattle.automaton.specs.Below.{countBelow}
-use Rattle.automaton.proofs.Counting.{count-below-le, count-below-same, count-below-some}
+use Rattle.automaton.proofs.Below.{count-below-le, count-below-same, count-below-some}
 use Rattle.automaton.proofs.WellFormed.{IsTable}
-use Rattle.automaton.proofs.Refining.{NamedByFirst, classes-after, classes-after-named, class-of-start}
+use Rattle.automaton.proofs.AlikeWithin.{NamedByFirst, classes-after, classes-after-named, class-of-start}
 
 -- the class of state s + 1 has its number
 abbrev names : List ℕ → ℕ → Bool

@@ -14,8 +14,8 @@ use Rattle.automaton.specs.History.{History}
 use Rattle.automaton.specs.Machine.{Machine, step, isState, possibleFrom}
 use Rattle.automaton.specs.Table.{tabled}
 use Rattle.automaton.specs.Join.{classOf, classRows, firstLike, refine, together, classesAfter}
-use Rattle.automaton.proofs.Counting.{place-found, place-hit, same-list-refl, same-list-true}
-use Rattle.automaton.proofs.Machines.{is-state, state-is}
+use Rattle.automaton.proofs.Below.{place-found, place-hit, same-list-refl, same-list-true}
+use Rattle.automaton.proofs.Machine.{is-state, state-is}
 use Rattle.automaton.proofs.WellFormed.{IsTable, getD-map-within, step-entry, step-inside}
 
 -- the same histories of at most k codes are possible from x and y

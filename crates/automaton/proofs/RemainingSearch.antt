@@ -11,7 +11,7 @@ use lib.ListN.{length, getD}
 use borrow.Author.Tests.{lt-ltb, le-ltb}
 use Rattle.automaton.specs.Machine.{Machine, step}
 use Rattle.automaton.specs.Explore.{Reached, visit, unreached, explore, startOf, reached}
-use Rattle.automaton.proofs.Exploring.{Front, front-refl, front-trans, add-front, visit-front}
+use Rattle.automaton.proofs.Explore.{Front, front-refl, front-trans, add-front, visit-front}
 
 module _ (m : Machine) (t : Reached) (found : List Reached) where
   pub visit-grows : (c k : ℕ) → c ≤ k → Front (visit m t c found) (visit m t k found)
@@ -39,25 +39,25 @@ module _ (m : Machine) where
       go false f = front-refl found
 
 -- i states have been visited, and the rest of the search finds the others; all, at most `most` of them visited, are those in L
-abbrev pub ToCome : Machine → ℕ → List Reached → ℕ → List Reached → Type 0
-ToCome m most L i found = explore m (most - i) i found ≡ L
+abbrev pub Remains : Machine → ℕ → List Reached → ℕ → List Reached → Type 0
+Remains m most L i found = explore m (most - i) i found ≡ L
 
 module _ (m : Machine) (most : ℕ) (L : List Reached) where
-  pub to-come-begun : reached m most ≡ L → ToCome m most L 0 (startOf m)
-  to-come-begun e = ap (λ (fuel : ℕ). explore m fuel 0 (startOf m)) (sub-zero most) ∙ e
+  pub remains-begun : reached m most ≡ L → Remains m most L 0 (startOf m)
+  remains-begun e = ap (λ (fuel : ℕ). explore m fuel 0 (startOf m)) (sub-zero most) ∙ e
 
-  pub to-come-turn : (i : ℕ) (found : List Reached) → i < length found → i < most → ToCome m most L i found
-      → ToCome m most L (suc i) (visit m (getD found i unreached) (m .width) found)
-  to-come-turn i found l b come =
+  pub remains-turn : (i : ℕ) (found : List Reached) → i < length found → i < most → Remains m most L i found
+      → Remains m most L (suc i) (visit m (getD found i unreached) (m .width) found)
+  remains-turn i found l b come =
       let e : most - i ≡ suc (most - suc i) = omega arith in
       let here : explore m (suc (most - suc i)) i found ≡ L = rw e at come in
       rw (lt-ltb i (length found) l) at here
 
-  pub to-come-front : (i : ℕ) (found : List Reached) → ToCome m most L i found → Front found L
-  to-come-front i found come = rw come at (explore-front m (most - i) i found)
+  pub remains-front : (i : ℕ) (found : List Reached) → Remains m most L i found → Front found L
+  remains-front i found come = rw come at (explore-front m (most - i) i found)
 
-  pub to-come-done : (i : ℕ) (found : List Reached) → length found ≤ i → ToCome m most L i found → found ≡ L
-  to-come-done i found l come = go (most - i) refl
+  pub remains-done : (i : ℕ) (found : List Reached) → length found ≤ i → Remains m most L i found → found ≡ L
+  remains-done i found l come = go (most - i) refl
     where
       go : (fuel : ℕ) → most - i ≡ fuel → found ≡ L
       go zero e = rw e at come
