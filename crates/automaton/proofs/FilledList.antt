@@ -11,15 +11,15 @@ use Rattle.automaton.proofs.Below.{length-list-below, getD-list-below}
 use Rattle.automaton.proofs.WellFormed.{getD-map-within}
 
 -- the first i places are filled, and the others are as they were
-pub record Filled (f : ℕ → ℕ) (old : List ℕ) (i : ℕ) (l : List ℕ) : Type 0 where
+pub record FilledUpTo (f : ℕ → ℕ) (old : List ℕ) (i : ℕ) (l : List ℕ) : Type 0 where
   pub within : i ≤ length old
   pub long : length l ≡ length old
   pub is : l ≡ listBelow i f ++ drop i old
 
-pub filled-begun : (f : ℕ → ℕ) (old : List ℕ) → Filled f old 0 old
+pub filled-begun : (f : ℕ → ℕ) (old : List ℕ) → FilledUpTo f old 0 old
 filled-begun f old = record { within = omega arith; long = refl; is = refl }
 
-module _ {f : ℕ → ℕ} {old l : List ℕ} {i : ℕ} (now : Filled f old i l) where
+module _ {f : ℕ → ℕ} {old l : List ℕ} {i : ℕ} (now : FilledUpTo f old i l) where
   pub filled-done : length old ≤ i → l ≡ listBelow (length old) f
   filled-done b =
       let all : i ≡ length old = omega (arith, now .within) in
@@ -32,7 +32,7 @@ module _ {f : ℕ → ℕ} {old l : List ℕ} {i : ℕ} (now : Filled f old i l)
   pub filled-next : i < length old → getD l i 0 ≡ getD old i 0
   filled-next b = rw (seam b) (getD-at (listBelow i f) (getD old i 0) (drop (suc i) old) 0 i (length-list-below f i))
 
-  pub filled-turn : {x : ℕ} → i < length old → x ≡ f i → Filled f old (i + 1) (set l i x)
+  pub filled-turn : {x : ℕ} → i < length old → x ≡ f i → FilledUpTo f old (i + 1) (set l i x)
   filled-turn {x} b e = rw add-one (record {
     within = b;
     long = length-set l i x ∙ now .long;

@@ -16,7 +16,7 @@ use borrow.Author.Tests.{lt-ltb, le-ltb, eq-eqb, ne-eqb}
 use Rattle.automaton.specs.Below.{foldBelow}
 use Rattle.automaton.proofs.Below.{and-true, greatest-below}
 use Rattle.automaton.proofs.Order.{tri}
-use Rattle.automaton.proofs.FilledList.{Filled, filled-turn}
+use Rattle.automaton.proofs.FilledList.{FilledUpTo, filled-turn}
 use Rattle.definitions.specs.Bytes.{bit}
 use Rattle.definitions.specs.Situation.{emptySet, insert}
 use Rattle.images.specs.Choice.{levelAt, decisionAt, withDecided, withTarget, withMost, levelIn, greatest, withChosen, chosenBy, leading, Listed, Chosen, chosenFor}
@@ -136,8 +136,8 @@ listed-both a b ranks targets h k e = h k (and-true (bit a k) (bit b k) (sym (bi
 
 -- both sets of request r are stored
 pub decided-turn : (sets : List ℕ) (enabled : ℕ) (ranks targets : List ℕ) (r : ℕ) (choice : Choice) (before after : List ℕ) → 2 * r + 2 ≤ length before
-    → Chosen (bitAnd (getD sets r 0) enabled) ranks targets (length ranks) choice → Filled (chosenFor sets enabled ranks targets) before (2 * r) after
-    → Filled (chosenFor sets enabled ranks targets) before (2 * (r + 1)) (set (set after (2 * r) (choice .accepted .set)) (2 * r + 1) (choice .rejected .set))
+    → Chosen (bitAnd (getD sets r 0) enabled) ranks targets (length ranks) choice → FilledUpTo (chosenFor sets enabled ranks targets) before (2 * r) after
+    → FilledUpTo (chosenFor sets enabled ranks targets) before (2 * (r + 1)) (set (set after (2 * r) (choice .accepted .set)) (2 * r + 1) (choice .rejected .set))
 decided-turn sets enabled ranks targets r choice before after room chosen done =
     let first : (2 * r - 0) / 2 ≡ r = omega arith in
     let second : (2 * r + 1 - 0) / 2 ≡ r = omega arith in

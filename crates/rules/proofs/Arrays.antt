@@ -10,14 +10,14 @@ use lib.Seq.{getD-take, getD-append-add, length-take-le}
 use borrow.Rule.Slice.PartMut.{putMid, same-len-mid}
 use Rattle.automaton.specs.Below.{listBelow}
 use Rattle.automaton.proofs.Below.{length-list-below, getD-list-below}
-use Rattle.automaton.proofs.FilledList.{Filled}
+use Rattle.automaton.proofs.FilledList.{FilledUpTo}
 use Rattle.rules.specs.Arrays.{Tabled}
 
 pub tabled-none : (f : ℕ → ℕ) (l : List ℕ) → Tabled 0 f l
 tabled-none f l = record { room = omega arith; entry = λ i b. absurd (omega arith) }
 
 -- what a loop leaves that has filled n entries
-pub filled-tabled : {f : ℕ → ℕ} {old l : List ℕ} {i : ℕ} (n : ℕ) → Filled f old i l → i ≡ n → Tabled n f l
+pub filled-tabled : {f : ℕ → ℕ} {old l : List ℕ} {i : ℕ} (n : ℕ) → FilledUpTo f old i l → i ≡ n → Tabled n f l
 filled-tabled {f} {old} {l} {i} n filled e =
     let all : Tabled i f l = record { room = omega (arith, filled .within, filled .long); entry = entry } in
     rw e at all

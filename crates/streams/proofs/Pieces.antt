@@ -13,7 +13,7 @@ use Rattle.io.specs.Counts.{clamped}
 use Rattle.text.specs.Put.{Put}
 use Rattle.streams.specs.declared.Input.{Input}
 use Rattle.streams.specs.declared.Input.the-variants.{Length, Failed}
-use Rattle.streams.specs.Input.{readAnswer, Came, AllCame}
+use Rattle.streams.specs.Input.{readAnswer, Came, Filled}
 
 -- an answer below 0, and one that is not
 pub below-zero : (got : ℤ) (n : ℕ) → ltZ got (pos 0) ≡ true → Failed ≡ readAnswer got n
@@ -66,5 +66,5 @@ ended {n} {before} more after b c l e =
     let same : n + more ≡ n = omega arith in
     subst (λ (k : ℕ). BytesCame k before after) same (then more after b c l)
 
-pub done : {n : ℕ} {before after : List ℕ} → BytesCame n before after → AllCame (Length n) before after
+pub done : {n : ℕ} {before after : List ℕ} → BytesCame n before after → Filled (Length n) before after
 done b = (b .fits, b .stays)

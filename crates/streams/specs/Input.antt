@@ -19,6 +19,6 @@ Came Failed at before after = after ≡ before
 
 -- reads up to the end of the input or of the buffer: the bytes at the front, as many as are told, lie within it, and those after them are unchanged. Where a read failed
 -- nothing is said: some bytes may have come before
-abbrev pub AllCame : Input → List ℕ → List ℕ → Type 0
-AllCame (Length n) before after = (n ≤ length after) × (drop n after ≡ drop n before)
-AllCame Failed before after = Unit
+abbrev pub Filled : Input → List ℕ → List ℕ → Type 0
+Filled (Length n) before after = (n ≤ length after) × (drop n after ≡ drop n before)
+Filled Failed before after = Unit

@@ -3,7 +3,7 @@
 ghost use mathlib.Core.Path.{_≡_};
 ghost use Prim.Native.Nat.{_+_, _≤_};
 ghost use lib.ListN.{length};
-ghost use Rattle.streams.specs.Input.{readAnswer, Came, AllCame};
+ghost use Rattle.streams.specs.Input.{readAnswer, Came, Filled};
 use libc::STDERR_FILENO;
 use libc::STDIN_FILENO;
 use libc::STDOUT_FILENO;
@@ -60,7 +60,7 @@ fn read_some(buffer: &mut [u8], at: usize) -> Input
 // Reads standard input until the buffer is full, the input ends or a read fails. The bytes go to the front of the buffer, and those after them are unchanged. A read that a
 // signal interrupts before it moves a byte is one that failed.
 pub fn read_input(buffer: &mut [u8]) -> Input
-    ensures { λ r. ⌜ AllCame r (now (buffer .entry)) (now (buffer .exit)) ⌝ }
+    ensures { λ r. ⌜ Filled r (now (buffer .entry)) (now (buffer .exit)) ⌝ }
 {
     let mut length = 0;
     while length < buffer.len() {

@@ -8,12 +8,12 @@ use borrow.Author.Needs.{needs}
 use Rattle.automaton.specs.Below.{listBelow}
 use Rattle.definitions.specs.Bytes.{byte}
 use Rattle.bookcheck.specs.Entries.{lesser}
-use Rattle.automaton.proofs.FilledList.{Filled, filled-begun, filled-next, filled-turn, filled-done}
+use Rattle.automaton.proofs.FilledList.{FilledUpTo, filled-begun, filled-next, filled-turn, filled-done}
 use Rattle.bookcheck.proofs.lower.Statement.{statement}
 use Rattle.bookcheck.proofs.lower.Tie as tie
 
 abbrev Inv-loop : tie.InvT-loop
-Inv-loop least₀ book at c₀ least c = Filled (lesser least₀ book at) least₀ c least
+Inv-loop least₀ book at c₀ least c = FilledUpTo (lesser least₀ book at) least₀ c least
 
 abbrev μ-loop : tie.MeasureT-loop
 μ-loop least₀ book at c₀ least c = 8 - c

@@ -1,5 +1,5 @@
 -- `clear` meets its contract: the sets passed so far are empty.
-use Rattle.automaton.proofs.FilledList.{Filled, filled-begun, filled-turn, filled-done}
+use Rattle.automaton.proofs.FilledList.{FilledUpTo, filled-begun, filled-turn, filled-done}
 use Rattle.explore.specs.SetImages.{noSet}
 use lib.ListN.{length, length-set}
 use native.Mathlib.Omega.{arith}
@@ -9,7 +9,7 @@ use Rattle.explore.proofs.clear.Statement.{statement}
 use Rattle.explore.proofs.clear.Tie as tie
 
 abbrev Inv-loop : tie.InvT-loop
-Inv-loop next₀ none c₀ next c = Filled noSet next₀ c next
+Inv-loop next₀ none c₀ next c = FilledUpTo noSet next₀ c next
 
 abbrev μ-loop : tie.MeasureT-loop
 μ-loop next₀ none c₀ next c = length next - c

@@ -1,5 +1,5 @@
 -- `unite` meets its contract: the sets passed so far are united.
-use Rattle.automaton.proofs.FilledList.{Filled, filled-begun, filled-next, filled-turn, filled-done}
+use Rattle.automaton.proofs.FilledList.{FilledUpTo, filled-begun, filled-next, filled-turn, filled-done}
 use Rattle.explore.specs.SetImages.{unionAt}
 use lib.ListN.{length, getD, length-set}
 use Rattle.definitions.specs.Situation.{union}
@@ -11,7 +11,7 @@ use Rattle.explore.proofs.unite.Statement.{statement}
 use Rattle.explore.proofs.unite.Tie as tie
 
 abbrev Inv-loop : tie.InvT-loop
-Inv-loop next₀ more c₀ next c = Filled (unionAt next₀ more) next₀ c next
+Inv-loop next₀ more c₀ next c = FilledUpTo (unionAt next₀ more) next₀ c next
 
 abbrev μ-loop : tie.MeasureT-loop
 μ-loop next₀ more c₀ next c = length next - c

@@ -4,7 +4,7 @@ use Prim.Native.Nat.{ℕ, _≤_, _<_, _-_}
 use native.Mathlib.Omega.{arith}
 use lib.ListN.{length}
 use borrow.Author.Needs.{needs}
-use Rattle.automaton.proofs.FilledList.{Filled, filled-begun, filled-turn}
+use Rattle.automaton.proofs.FilledList.{FilledUpTo, filled-begun, filled-turn}
 use Rattle.automaton.proofs.Loops.{row-within}
 use Rattle.definitions.specs.Policy.{events}
 use Rattle.definitions.specs.Situation.{emptySet, insert}
@@ -16,7 +16,7 @@ use Rattle.images.proofs.fill_events.Statement.{statement}
 use Rattle.images.proofs.fill_events.Tie as tie
 
 abbrev Inv-loop : tie.InvT-loop
-Inv-loop policy bounds values row₀ changes n step e₀ row e = (e ≤ n) × Filled (eventFrom policy (entryOf values)) row₀ e row
+Inv-loop policy bounds values row₀ changes n step e₀ row e = (e ≤ n) × FilledUpTo (eventFrom policy (entryOf values)) row₀ e row
 
 abbrev μ-loop : tie.MeasureT-loop
 μ-loop policy bounds values row₀ changes n step e₀ row e = n - e

@@ -3,7 +3,7 @@ use mathlib.Core.Path.{_≡_}
 use Prim.Native.Nat.{_≤_, _-_}
 use native.Mathlib.Omega.{arith}
 use borrow.Author.Needs.{needs}
-use Rattle.automaton.proofs.FilledList.{Filled, filled-begun, filled-turn}
+use Rattle.automaton.proofs.FilledList.{FilledUpTo, filled-begun, filled-turn}
 use Rattle.definitions.specs.Policy.{rules}
 use Rattle.rules.proofs.Arrays.{filled-tabled}
 use Rattle.images.specs.Images.{ruleRank}
@@ -11,7 +11,7 @@ use Rattle.images.proofs.fill_ranks.Statement.{statement}
 use Rattle.images.proofs.fill_ranks.Tie as tie
 
 abbrev Inv-loop : tie.InvT-loop
-Inv-loop policy table ranks₀ n k₀ ranks k = (k ≤ n) × Filled (ruleRank policy) ranks₀ k ranks
+Inv-loop policy table ranks₀ n k₀ ranks k = (k ≤ n) × FilledUpTo (ruleRank policy) ranks₀ k ranks
 
 abbrev μ-loop : tie.MeasureT-loop
 μ-loop policy table ranks₀ n k₀ ranks k = n - k

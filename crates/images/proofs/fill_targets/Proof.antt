@@ -3,7 +3,7 @@ use mathlib.Core.Path.{_≡_}
 use Prim.Native.Nat.{_≤_, _-_}
 use native.Mathlib.Omega.{arith}
 use borrow.Author.Needs.{needs}
-use Rattle.automaton.proofs.FilledList.{Filled, filled-begun, filled-turn}
+use Rattle.automaton.proofs.FilledList.{FilledUpTo, filled-begun, filled-turn}
 use Rattle.definitions.specs.Policy.{rules}
 use Rattle.rules.specs.Arrays.{entryOf}
 use Rattle.rules.proofs.Arrays.{filled-tabled}
@@ -13,7 +13,7 @@ use Rattle.images.proofs.fill_targets.Statement.{statement}
 use Rattle.images.proofs.fill_targets.Tie as tie
 
 abbrev Inv-loop : tie.InvT-loop
-Inv-loop policy bounds values targets₀ table n first k₀ targets k = (k ≤ n) × Filled (ruleTarget policy (entryOf values)) targets₀ k targets
+Inv-loop policy bounds values targets₀ table n first k₀ targets k = (k ≤ n) × FilledUpTo (ruleTarget policy (entryOf values)) targets₀ k targets
 
 abbrev μ-loop : tie.MeasureT-loop
 μ-loop policy bounds values targets₀ table n first k₀ targets k = n - k

@@ -4,13 +4,13 @@ use native.Mathlib.Omega.{arith}
 use mathlib.Core.Path.{refl}
 use lib.ListN.{length}
 use Rattle.comparelabels.specs.LabelBytes.{itself}
-use Rattle.automaton.proofs.FilledList.{Filled, filled-begun, filled-turn, filled-done}
+use Rattle.automaton.proofs.FilledList.{FilledUpTo, filled-begun, filled-turn, filled-done}
 use borrow.Author.Needs.{needs}
 use Rattle.comparelabels.proofs.label_bytes.own_labels.Statement.{statement}
 use Rattle.comparelabels.proofs.label_bytes.own_labels.Tie as tie
 
 abbrev Inv-loop : tie.InvT-loop
-Inv-loop label₀ u₀ label u = Filled itself label₀ u label
+Inv-loop label₀ u₀ label u = FilledUpTo itself label₀ u label
 
 abbrev μ-loop : tie.MeasureT-loop
 μ-loop label₀ u₀ label u = length label₀ - u

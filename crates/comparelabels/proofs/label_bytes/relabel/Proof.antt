@@ -4,13 +4,13 @@ use native.Mathlib.Omega.{arith}
 use mathlib.Core.Path.{ap, _∙_}
 use lib.ListN.{length}
 use Rattle.comparelabels.specs.LabelBytes.{moved}
-use Rattle.automaton.proofs.FilledList.{Filled, elsewhere, filled-begun, filled-next, filled-turn, filled-done, map-below}
+use Rattle.automaton.proofs.FilledList.{FilledUpTo, elsewhere, filled-begun, filled-next, filled-turn, filled-done, map-below}
 use borrow.Author.Needs.{needs}
 use Rattle.comparelabels.proofs.label_bytes.relabel.Statement.{statement}
 use Rattle.comparelabels.proofs.label_bytes.relabel.Tie as tie
 
 abbrev Inv-loop : tie.InvT-loop
-Inv-loop label₀ from to u₀ label u = Filled (elsewhere (moved from to) label₀) label₀ u label
+Inv-loop label₀ from to u₀ label u = FilledUpTo (elsewhere (moved from to) label₀) label₀ u label
 
 abbrev μ-loop : tie.MeasureT-loop
 μ-loop label₀ from to u₀ label u = length label₀ - u

@@ -4,7 +4,7 @@ use Prim.Native.Nat.{_≤_, _-_, _*_}
 use native.Mathlib.Omega.{arith}
 use lib.ListN.{length, getD, length-set}
 use borrow.Author.Needs.{needs}
-use Rattle.automaton.proofs.FilledList.{Filled, filled-begun}
+use Rattle.automaton.proofs.FilledList.{FilledUpTo, filled-begun}
 use Rattle.rules.proofs.Arrays.{filled-tabled}
 use Rattle.images.specs.Choice.{chosenFor}
 use Rattle.images.proofs.Choices.{listed-both, decided-turn}
@@ -12,7 +12,7 @@ use Rattle.images.proofs.deciding.fill_requests.Statement.{statement}
 use Rattle.images.proofs.deciding.fill_requests.Tie as tie
 
 abbrev Inv-loop : tie.InvT-loop
-Inv-loop sets enabled ranks targets row₀ r₀ row r = (r ≤ length sets) × Filled (chosenFor sets enabled ranks targets) row₀ (2 * r) row
+Inv-loop sets enabled ranks targets row₀ r₀ row r = (r ≤ length sets) × FilledUpTo (chosenFor sets enabled ranks targets) row₀ (2 * r) row
 
 abbrev μ-loop : tie.MeasureT-loop
 μ-loop sets enabled ranks targets row₀ r₀ row r = length sets - r

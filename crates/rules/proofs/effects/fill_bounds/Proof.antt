@@ -3,7 +3,7 @@ use mathlib.Core.Path.{_≡_}
 use Prim.Native.Nat.{_≤_, _-_}
 use native.Mathlib.Omega.{arith}
 use borrow.Author.Needs.{needs}
-use Rattle.automaton.proofs.FilledList.{Filled, filled-begun, filled-turn}
+use Rattle.automaton.proofs.FilledList.{FilledUpTo, filled-begun, filled-turn}
 use Rattle.definitions.specs.Policy.{variables}
 use Rattle.definitions.specs.Valuation.{bound}
 use Rattle.rules.proofs.Arrays.{filled-tabled}
@@ -11,7 +11,7 @@ use Rattle.rules.proofs.effects.fill_bounds.Statement.{statement}
 use Rattle.rules.proofs.effects.fill_bounds.Tie as tie
 
 abbrev Inv-loop : tie.InvT-loop
-Inv-loop policy table bounds₀ n j₀ bounds j = (j ≤ n) × Filled (bound policy) bounds₀ j bounds
+Inv-loop policy table bounds₀ n j₀ bounds j = (j ≤ n) × FilledUpTo (bound policy) bounds₀ j bounds
 
 abbrev μ-loop : tie.MeasureT-loop
 μ-loop policy table bounds₀ n j₀ bounds j = n - j

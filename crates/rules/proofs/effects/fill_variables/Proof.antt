@@ -4,7 +4,7 @@ use Prim.Native.Nat.{_≤_, _<_, _-_, _+_, _/_}
 use native.Mathlib.Omega.{arith}
 use lib.ListN.{getD}
 use borrow.Author.Needs.{needs}
-use Rattle.automaton.proofs.FilledList.{Filled, filled-begun, filled-turn}
+use Rattle.automaton.proofs.FilledList.{FilledUpTo, filled-begun, filled-turn}
 use Rattle.definitions.specs.Policy.{variables}
 use Rattle.definitions.specs.Valuation.{bound, worth, valuesOf, variableIn}
 use Rattle.rules.proofs.Arrays.{filled-tabled}
@@ -13,7 +13,7 @@ use Rattle.rules.proofs.effects.fill_variables.Statement.{statement}
 use Rattle.rules.proofs.effects.fill_variables.Tie as tie
 
 abbrev Inv-loop : tie.InvT-loop
-Inv-loop policy bounds v values₀ n rest₀ j₀ values rest j = (j ≤ n) × (rest ≡ v / worth policy j) × Filled (variableIn policy v) values₀ j values
+Inv-loop policy bounds v values₀ n rest₀ j₀ values rest j = (j ≤ n) × (rest ≡ v / worth policy j) × FilledUpTo (variableIn policy v) values₀ j values
 
 abbrev μ-loop : tie.MeasureT-loop
 μ-loop policy bounds v values₀ n rest₀ j₀ values rest j = n - j

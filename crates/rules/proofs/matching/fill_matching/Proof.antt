@@ -3,7 +3,7 @@ use mathlib.Core.Path.{_≡_}
 use Prim.Native.Nat.{_≤_, _-_}
 use native.Mathlib.Omega.{arith}
 use borrow.Author.Needs.{needs}
-use Rattle.automaton.proofs.FilledList.{Filled, filled-begun, filled-turn}
+use Rattle.automaton.proofs.FilledList.{FilledUpTo, filled-begun, filled-turn}
 use Rattle.definitions.specs.Policy.{requests}
 use Rattle.rules.specs.RuleSets.{matching}
 use Rattle.rules.proofs.Arrays.{filled-tabled}
@@ -11,7 +11,7 @@ use Rattle.rules.proofs.matching.fill_matching.Statement.{statement}
 use Rattle.rules.proofs.matching.fill_matching.Tie as tie
 
 abbrev Inv-loop : tie.InvT-loop
-Inv-loop policy table sets₀ n r₀ sets r = (r ≤ n) × Filled (matching policy) sets₀ r sets
+Inv-loop policy table sets₀ n r₀ sets r = (r ≤ n) × FilledUpTo (matching policy) sets₀ r sets
 
 abbrev μ-loop : tie.MeasureT-loop
 μ-loop policy table sets₀ n r₀ sets r = n - r
