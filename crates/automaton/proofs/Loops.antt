@@ -1,5 +1,5 @@
 -- What a loop that counts up shows, turn by turn: a test that holds at each number below a bound, and a fold over those numbers. And the parts of a slice
--- that such a loop lends.
+-- that such a loop hands on.
 use mathlib.Core.Path.{_≡_, refl, sym, ap, _∙_}
 use mathlib.Core.Bool.{Bool, true, false, false≢true, and-true, and-assoc, _&&_}
 use mathlib.Core.List.{List}

@@ -1,4 +1,4 @@
--- The answer of a call and the buffer after it, by the number of the row that turns the call down: a number that is not 0 is the whole answer and leaves the
+-- The answer of a call and the buffer after it, by the number of the row that refuses the call: a number that is not 0 is the whole answer and leaves the
 -- buffer; 0 gives the value and writes it. No buffer is shorter afterwards.
 use mathlib.Core.Path.{_≡_, refl}
 use mathlib.Core.Bool.{Bool, true, false, cond}
@@ -22,7 +22,7 @@ module _ {A : Type 0} (number : ℕ) where
   pub given-answer : number ≡ 0 → (value : A) → given value ≡ answer number value
   given-answer e value = rw e
 
-  -- a value is given only where no row turns the call down
+  -- a value is given only where no row refuses the call
   pub answer-given : (a value : A) → given a ≡ answer number value → (number ≡ 0) × (a ≡ value)
   answer-given a value = go number
     where

@@ -1,4 +1,4 @@
--- Lists that are filled from the front, and rows that are written one after another into lent parts of a buffer: for every header, width and row.
+-- Lists that are filled from the front, and rows that are written one after another into borrowed parts of a buffer: for every header, width and row.
 use mathlib.Core.Path.{_≡_, refl, sym, ap, _∙_}
 use mathlib.Core.List.{List, [], _∷_, _++_, append-assoc, append-nil}
 use Prim.Native.Nat.{ℕ, zero, suc, _+_, _-_, _*_, _<_, _≤_}
@@ -84,7 +84,7 @@ module _ (h : ℕ) (rows : List (List ℕ)) (buffer : List ℕ) (fits : h + leng
   laid-rest : drop (h + length (concat rows)) (laid h rows buffer) ≡ drop (h + length (concat rows)) buffer
   laid-rest = rw laid-split (drop-at (take h buffer ++ concat rows) (drop (h + length (concat rows)) buffer) (h + length (concat rows)) laid-head)
 
-  -- the part after them was lent, and came back with a row in front
+  -- the part after them was borrowed, and came back with a row in front
   laid-more : (row x part : List ℕ) (a : ℕ) → x ≡ laid h rows buffer → a ≡ h + length (concat rows) → part ≡ written row (drop a x)
       → putMid a (length x - a) x part ≡ laid h (rows ++ (row ∷ [])) buffer
   laid-more row x part a ex ea ep =

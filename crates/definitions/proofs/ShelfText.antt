@@ -25,7 +25,7 @@ exact-short p E F P R =
     let size : ruleSize p ≤ 22 = omega arith in
     omega (arith, mul-le-mul R size, mul-le-mul E P)
 
--- a file of 750 bytes or more that row 5 lets pass is turned down by row 6
+-- a file of 750 bytes or more that row 5 lets pass is refused by row 6
 too-long : (p : List ℕ) → 750 ≤ length p → rangesHold p ≡ true → refusalBy (rowsFrom 6 fileChecks) p ≡ 6
 too-long p l e =
     let r = ranges-true p e in
@@ -66,7 +66,7 @@ refused-number p n e = rw (e, eqb·suc-zero n) refl
 second : (n : ℕ) (x y : List ℕ) → cond (eqb (suc n) 0) x y ≡ y
 second n x y = rw (eqb·suc-zero n) refl
 
--- what is written of a file that a row up to 10 turns down
+-- what is written of a file that a row up to 10 refuses
 refused-text : (p : List ℕ) (n : ℕ) → fileRefusal p ≡ suc n → policyText p ≡ line refusedWord (decimal (suc n))
 unfolding policyText
 refused-text p n e =

@@ -1,4 +1,4 @@
--- What every entry point has in common: rows judged in order, an answer that is a refusal's number or a value, and the lent buffers afterwards.
+-- What every entry point has in common: rows judged in order, an answer that is a refusal's number or a value, and the borrowed buffers afterwards.
 use mathlib.Core.Bool.{Bool, cond}
 use mathlib.Core.List.{List, [], _∷_, _++_}
 use mathlib.Core.Option.{Option, none, some}

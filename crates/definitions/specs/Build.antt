@@ -1,4 +1,4 @@
--- Build: from a policy's bytes to its book in a lent buffer.
+-- Build: from a policy's bytes to its book in a borrowed buffer.
 use mathlib.Core.List.{List}
 use Prim.Native.Nat.{ℕ}
 use lib.Dec.{leb}

@@ -1,4 +1,4 @@
-// Reading a policy file: the numbers at its front, the records of its rules, the bounds of its variables. What turns a file down stands in the crate
+// Reading a policy file: the numbers at its front, the records of its rules, the bounds of its variables. What a file is refused for is in the crate
 // policycheck.
 pub mod counts;
 pub mod header;

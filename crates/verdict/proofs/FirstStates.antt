@@ -24,7 +24,7 @@ use Rattle.definitions.proofs.BookSteps.{has-states}
 use Rattle.search.specs.Trail.{firstAt, historyAt}
 use Rattle.search.specs.Found.{reachedAt, foundIn, Holds, bookStates}
 use Rattle.search.proofs.Found.{holds-length, holds-inside, holds-leads, reached-most}
-use Rattle.verdict.specs.SoughtRequests.{testOf, someAt, StatesIn, soughtFinding}
+use Rattle.verdict.specs.SoughtRequests.{testOf, someAt, StatesIn, IsHit, soughtFinding}
 use Rattle.verdict.specs.declared.requests.Sought.{Sought}
 
 -- ---- lists
@@ -117,15 +117,12 @@ module _ (sought : Sought) (b : List ℕ) {n : ℕ} {order trail : List ℕ} (H 
   says-none l buffer =
       rw (says none (first-none (someRequest (testOf sought) b) order trail n (someAt sought b order) (λ k b. refl) l)) (refl, refl)
 
-  -- r is the lowest of q requests at state s, and m codes are written
-  pub says-found : (k s q r m : ℕ) (buffer after : List ℕ) → k ≡ lowestBelow n (someAt sought b order) → k < n
-      → s ≡ byte order k → q ≡ requests b → r ≡ lowestBelow q (testOf sought b s) → m ≡ length (historyAt trail k) → after ≡ written (historyAt trail k) buffer
-      → Says (some (record { request = r; history = take m after })) buffer after
-  says-found k s q r m buffer after ek l es eq er em ea =
-      let lowest : r ≡ lowestBelow (requests b) (testOf sought b (byte order k)) =
-      subst (λ (t : ℕ). r ≡ lowestBelow (requests b) (testOf sought b t)) es (subst (λ (p : ℕ). r ≡ lowestBelow p (testOf sought b s)) eq er) in
+  -- m codes are written
+  pub says-found : (k r m : ℕ) (buffer after : List ℕ) → IsHit sought b order n k r → k < n → m ≡ length (historyAt trail k)
+      → after ≡ written (historyAt trail k) buffer → Says (some (record { request = r; history = take m after })) buffer after
+  says-found k r m buffer after hit l em ea =
       rw (
-        says (some (reachedAt order trail k)) (first-some (someRequest (testOf sought) b) order trail n (someAt sought b order) (λ k b. refl) k ek l),
+        says (some (reachedAt order trail k)) (first-some (someRequest (testOf sought) b) order trail n (someAt sought b order) (λ k b. refl) k (hit .first) l),
         written-read (historyAt trail k) buffer m after em ea,
-        lowest,
+        hit .lowest l,
       ) (refl, ea)

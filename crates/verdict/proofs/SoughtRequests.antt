@@ -5,9 +5,10 @@ use mathlib.Core.List.{List}
 use Prim.Native.Nat.{ℕ, _≤_, _<_}
 use native.Mathlib.Omega.{arith}
 use Rattle.automaton.specs.Below.{anyBelow, lowestBelow}
+use Rattle.definitions.specs.Bytes.{byte}
 use Rattle.definitions.specs.Book.{requests}
 use Rattle.definitions.specs.Telling.{Telling, toTelling, acceptable, rejectable, someRequest, telling}
-use Rattle.verdict.specs.SoughtRequests.{soughtBy, testOf}
+use Rattle.verdict.specs.SoughtRequests.{soughtBy, testOf, someAt, IsHit}
 use Rattle.verdict.specs.declared.requests.Sought.{Sought}
 use Rattle.verdict.specs.declared.requests.Sought.the-variants.{Conflict, Missing, Answer}
 use Rattle.verdict.proofs.LowestBelow.{some-lowest, none-lowest}
@@ -51,3 +52,15 @@ module _ (sought : Sought) (b : List ℕ) (s t q r : ℕ) (es : t ≡ s) (eq : q
 
   pub none-sought : q ≤ r → someRequest (testOf sought) b s ≡ false
   none-sought l = is false (none-lowest (testOf sought b t) q (omega arith))
+
+-- ---- the first place with such a request
+module _ (sought : Sought) (b order : List ℕ) (n k r : ℕ) (ek : k ≡ lowestBelow n (someAt sought b order)) where
+  -- r is the lowest of q requests at the state of place k, which was read as t
+  pub is-hit : (t q : ℕ) → t ≡ byte order k → q ≡ requests b → r ≡ lowestBelow q (testOf sought b t) → IsHit sought b order n k r
+  is-hit t q es eq er = record {
+    first = ek;
+    lowest = λ l. subst (λ (s : ℕ). r ≡ lowestBelow (requests b) (testOf sought b s)) es (subst (λ (m : ℕ). r ≡ lowestBelow m (testOf sought b t)) eq er);
+  }
+
+  pub no-hit : n ≤ k → IsHit sought b order n k r
+  no-hit l = record { first = ek; lowest = λ b. absurd (omega arith) }

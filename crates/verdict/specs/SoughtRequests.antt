@@ -1,29 +1,35 @@
 -- The requests that are sought at a state, and the finding.
-use mathlib.Core.Bool.{Bool, true, false}
+use mathlib.Core.Path.{_≡_}
+use mathlib.Core.Bool.{Bool, true, false, not}
 use mathlib.Core.List.{List}
 use mathlib.Core.Option.{Option}
 use Prim.Native.Nat.{ℕ, _≤_, _<_}
+use Rattle.automaton.specs.Below.{lowestBelow}
 use Rattle.definitions.specs.Bytes.{byte}
-use Rattle.definitions.specs.Book.{states}
+use Rattle.definitions.specs.Book.{states, requests}
 use Rattle.definitions.specs.Telling.{Telling, none, both, accept, reject, inConflict, unanswered, answered, someRequest}
 use Rattle.definitions.specs.Verdict.{Found, finding}
 use Rattle.verdict.specs.declared.requests.Sought.{Sought}
 use Rattle.verdict.specs.declared.requests.Sought.the-variants.{Conflict, Missing, Answer}
 
--- by what a state tells of the request
+-- what a state tells of a request is "none", or "both"
+abbrev pub isNone : Telling → Bool
+isNone none = true
+isNone accept = false
+isNone reject = false
+isNone both = false
+
+abbrev pub isBoth : Telling → Bool
+isBoth none = false
+isBoth accept = false
+isBoth reject = false
+isBoth both = true
+
+-- a request is sought by what a state tells of it
 abbrev pub soughtBy : Sought → Telling → Bool
-soughtBy Conflict none = false
-soughtBy Conflict accept = false
-soughtBy Conflict reject = false
-soughtBy Conflict both = true
-soughtBy Missing none = true
-soughtBy Missing accept = false
-soughtBy Missing reject = false
-soughtBy Missing both = false
-soughtBy Answer none = false
-soughtBy Answer accept = true
-soughtBy Answer reject = true
-soughtBy Answer both = true
+soughtBy Conflict told = isBoth told
+soughtBy Missing told = isNone told
+soughtBy Answer told = not (isNone told)
 
 -- request r is sought at state s: it is in conflict, unanswered or answered
 abbrev pub testOf : Sought → List ℕ → ℕ → ℕ → Bool
@@ -38,6 +44,11 @@ someAt sought b order k = someRequest (testOf sought) b (byte order k)
 -- the first n places of the array have states of the book
 abbrev pub StatesIn : List ℕ → ℕ → List ℕ → Type 0
 StatesIn b n order = (k : ℕ) → k < n → (1 ≤ byte order k) × (byte order k ≤ states b)
+
+-- place k is the first of n that has a state with a request that is sought, and r its lowest such request; n if there is none
+pub record IsHit (sought : Sought) (b order : List ℕ) (n k r : ℕ) : Type 0 where
+  pub first : k ≡ lowestBelow n (someAt sought b order)
+  pub lowest : k < n → r ≡ lowestBelow (requests b) (testOf sought b (byte order k))
 
 -- the finding for what is sought
 unfoldable pub soughtFinding : Sought → List ℕ → Option Found

@@ -7,7 +7,7 @@ ghost use Rattle.definitions.specs.Answer.{written, historyBytes};
 ghost use Rattle.definitions.specs.Checked.{BookPassed};
 ghost use Rattle.definitions.specs.Verdict.{foundHistory, blocked};
 ghost use Rattle.search.specs.Found.{Holds, bookStates};
-ghost use Rattle.verdict.specs.SoughtRequests.{someAt, StatesIn, soughtFinding};
+ghost use Rattle.verdict.specs.SoughtRequests.{StatesIn, IsHit, soughtFinding};
 ghost use Rattle.verdict.specs.Marks.{unmarkedAt};
 ghost use Rattle.verdict.specs.VerdictAnswer.{foundOf, blockedOf};
 use crate::marks::mark;
@@ -30,21 +30,31 @@ pub enum Blocked {
     After { length: usize },
 }
 
-// The first of the `n` states in `order`, found by a search, with a request that is sought, `n` if there is none.
-fn first_with(book: &[u8], order: &[u8], n: usize, sought: Sought) -> usize
+// A state with a request that is sought, by its place, and the lowest such request.
+struct Hit {
+    place: usize,
+    request: usize,
+}
+
+// The first of the `n` states in `order`, found by a search, with a request that is sought; its place is `n` if there is none.
+fn first_with(book: &[u8], order: &[u8], n: usize, sought: Sought) -> Hit
     requires { ⌜ BookPassed (now book) × (n ≤ length (now order)) × StatesIn (now book) n (now order) ⌝ }
-    ensures { λ r. ⌜ r ≡ lowestBelow n (someAt sought (now (book .entry)) (now (order .entry))) ⌝ }
+    ensures { λ r. ⌜ IsHit sought (now (book .entry)) (now (order .entry)) n (r .place) (r .request) ⌝ }
 {
     let w = width(book);
     let q = requests(book);
     let mut k = 0;
     while k < n {
-        if lowest(book, w, q, wide(order[k]), sought) < q {
-            return k;
+        let request = lowest(book, w, q, wide(order[k]), sought);
+        if request < q {
+            return Hit { place: k, request };
         }
         k += 1;
     }
-    k
+    Hit {
+        place: k,
+        request: 0,
+    }
 }
 
 // The finding for what is sought, with its history at the front of the buffer.
@@ -61,13 +71,16 @@ pub fn find(
     ensures { λ r. ⌜ foundOf r (now (buffer .exit)) ≡ soughtFinding sought (now (book .entry)) ⌝ }
     ensures { λ _. ⌜ now (buffer .exit) ≡ written (historyBytes (foundHistory (soughtFinding sought (now (book .entry))))) (now (buffer .entry)) ⌝ }
 {
-    let k = first_with(book, order, n, sought);
+    let hit = first_with(book, order, n, sought);
+    let k = hit.place;
     if n <= k {
         return Finding::None;
     }
-    let request = lowest(book, width(book), requests(book), wide(order[k]), sought);
     let length = write_history(trail, k, buffer);
-    Finding::Found { request, length }
+    Finding::Found {
+        request: hit.request,
+        length,
+    }
 }
 
 // The first of the `n` states in `order` that is not marked, `n` if there is none.

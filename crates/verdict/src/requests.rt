@@ -5,7 +5,7 @@ ghost use Rattle.automaton.specs.Below.{lowestBelow};
 ghost use Rattle.definitions.specs.Book as Book;
 ghost use Rattle.definitions.specs.Checked.{BookPassed};
 ghost use Rattle.book.specs.Tellings.{tellingOf};
-ghost use Rattle.verdict.specs.SoughtRequests.{soughtBy, testOf};
+ghost use Rattle.verdict.specs.SoughtRequests.{isNone, isBoth, soughtBy, testOf};
 use book::Telling;
 use book::telling_at;
 
@@ -16,30 +16,36 @@ pub enum Sought {
     Answer,
 }
 
+fn is_none(told: Telling) -> bool
+    ensures { λ r. ⌜ r ≡ isNone (tellingOf told) ⌝ }
+{
+    match told {
+        Telling::None => true,
+        Telling::Accept => false,
+        Telling::Reject => false,
+        Telling::Both => false,
+    }
+}
+
+fn is_both(told: Telling) -> bool
+    ensures { λ r. ⌜ r ≡ isBoth (tellingOf told) ⌝ }
+{
+    match told {
+        Telling::None => false,
+        Telling::Accept => false,
+        Telling::Reject => false,
+        Telling::Both => true,
+    }
+}
+
+// Whether a request of which a state tells this is sought.
 fn is_sought(sought: Sought, told: Telling) -> bool
     ensures { λ r. ⌜ r ≡ soughtBy sought (tellingOf told) ⌝ }
 {
-    match told {
-        Telling::None => match sought {
-            Sought::Conflict => false,
-            Sought::Missing => true,
-            Sought::Answer => false,
-        },
-        Telling::Accept => match sought {
-            Sought::Conflict => false,
-            Sought::Missing => false,
-            Sought::Answer => true,
-        },
-        Telling::Reject => match sought {
-            Sought::Conflict => false,
-            Sought::Missing => false,
-            Sought::Answer => true,
-        },
-        Telling::Both => match sought {
-            Sought::Conflict => true,
-            Sought::Missing => false,
-            Sought::Answer => true,
-        },
+    match sought {
+        Sought::Conflict => is_both(told),
+        Sought::Missing => is_none(told),
+        Sought::Answer => !is_none(told),
     }
 }
 

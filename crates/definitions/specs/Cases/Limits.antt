@@ -1,4 +1,4 @@
--- Both sides of every limit that document 01 sets but that of row 11, which stands in Large: the last value that passes, and the first that is turned down.
+-- Both sides of every limit that document 01 sets but that of row 11, which stands in Large: the last value that passes, and the first that is refused.
 use mathlib.Core.List.{List, [], _∷_, _++_}
 use Prim.Native.Nat.{ℕ}
 use lib.ListN.{set, take, replicate}
@@ -26,7 +26,7 @@ limitCases =
     ∷ number (policyRefusal (set policyA 1 0x50)) 3
     ∷ number (policyRefusal (set policyA 3 1)) 4
     ∷ number (policyRefusal (set policyA 4 2)) 4
-    -- 5: E 0 to 8, F 1 to 4, P 0 to 4, R 1 to 32; what passes is turned down for its length
+    -- 5: E 0 to 8, F 1 to 4, P 0 to 4, R 1 to 32; what passes is refused for its length
     ∷ number (policyRefusal (set policyA 5 8)) 6
     ∷ number (policyRefusal (set policyA 5 9)) 5
     ∷ number (policyRefusal (set policyA 6 0)) 5

@@ -45,7 +45,7 @@ textOfMixed =
     ∷ 109 ∷ 105 ∷ 115 ∷ 115 ∷ 105 ∷ 110 ∷ 103 ∷ 32 ∷ 48 ∷ 32 ∷ 49 ∷ 32 ∷ 51 ∷ 10
     ∷ 98 ∷ 108 ∷ 111 ∷ 99 ∷ 107 ∷ 101 ∷ 100 ∷ 32 ∷ 45 ∷ 10 ∷ []
 
--- what turns the bytes down where byte i holds x
+-- the number that refuses the bytes where byte i holds x
 abbrev numberWith : (List ℕ → ℕ) → List ℕ → ℕ → ℕ → ℕ
 numberWith refusal file x i = refusal (set file i x)
 

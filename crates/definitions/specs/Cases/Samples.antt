@@ -73,7 +73,7 @@ bookA =
     ∷ 1 ∷ 2 ∷ 0 ∷ 3 ∷ 0
     ∷ 1 ∷ 3 ∷ 0 ∷ 0 ∷ 3 ∷ []
 
--- a lent buffer of n bytes
+-- a borrowed buffer of n bytes
 abbrev pub lent : ℕ → List ℕ
 lent n = replicate n 7
 

@@ -14,40 +14,21 @@ first-with-requires c κs =
 returns : tie.Need-returns
 returns c =
     let s = c .before .before .before .before .before .before in
-    says-none (s .args .sought) _ (s .pre .0 .1) (omega (arith, c .before .first-with .ensures, c .if1 .taken)) (now (s .args .buffer))
-
-width-requires : tie.Need-width-requires
-width-requires c κs = search needs
-
-requests-requires : tie.Need-requests-requires
-requests-requires c κs = search needs
-
-shared-slice-read-wide : tie.Need-shared-slice-read-wide
-shared-slice-read-wide c = let p = c .before .before .before .before .before .before .before .before .before .pre in omega (arith, c .before .before .before .if1 .left, book-few _ (p .0 .1) (p .0 .0), p .1 .0)
-
-wide-requires : tie.Need-wide-requires
-wide-requires c κs = search needs
-
-lowest-requires : tie.Need-lowest-requires
-lowest-requires c κs =
-    let p = c .before .before .before .before .before .before .before .before .before .before .pre in
-    let inside = book-inside _ (p .0 .1) (p .0 .0) _ (c .before .before .before .before .if1 .left) in
-    ((p .0 .0, c .before .before .before .width .ensures, c .before .before .requests .ensures), omega (arith, c .wide .ensures, inside))
+    says-none (s .args .sought) _ (s .pre .0 .1) (omega (arith, c .before .first-with .ensures .first, c .if1 .taken)) (now (s .args .buffer))
 
 write-history-requires : tie.Need-write-history-requires
 write-history-requires c κs =
-    let p = c .before .before .before .before .before .before .before .before .before .before .before .before .pre in
-    book-trail _ (p .0 .1) (p .0 .0) _ (c .before .before .before .before .before .before .if1 .left) (p .1 .1) _ (p .1 .2)
+    let p = c .before .before .before .before .before .before .before .pre in
+    book-trail _ (p .0 .1) (p .0 .0) _ (c .before .if1 .left) (p .1 .1) _ (p .1 .2)
 
 same-length : tie.Need-same-length
 same-length c = search needs
 
 returns-2 : tie.Need-returns-2
 returns-2 c =
-    let s = c .before .before .before .before .before .before .before .before .before .before .before .before .before .before .before in
+    let s = c .before .before .before .before .before .before .before .before .before .before in
     let e = c .before .before .write-history .ensures in
-    says-found (s .args .sought) _ (s .pre .0 .1) _ _ _ _ _ (now (s .args .buffer)) _ (c .before .before .before .before .before .before .before .before .before .before .first-with .ensures) (c .before .before .before .before .before .before .before .before .before .if1 .left) (c .before .before .before .before .before .wide .ensures .0)
-    (c .before .before .before .before .before .before .before .requests .ensures) (c .before .before .before .before .lowest .ensures) (e .0) (e .1)
+    says-found (s .args .sought) _ (s .pre .0 .1) _ _ _ (now (s .args .buffer)) _ (c .before .before .before .before .before .first-with .ensures) (c .before .before .before .before .if1 .left) (e .0) (e .1)
 
 pub find-spec : {M : Type 1} → statement M
 find-spec =
@@ -55,11 +36,6 @@ find-spec =
     (tie.spec
     first-with-requires
     returns
-    width-requires
-    requests-requires
-    shared-slice-read-wide
-    wide-requires
-    lowest-requires
     write-history-requires
     same-length
     returns-2)

@@ -5,7 +5,7 @@ use borrow.Author.Count.{below-more}
 use Rattle.definitions.specs.Bytes.{byte}
 use Rattle.verdict.specs.SoughtRequests.{someAt}
 use Rattle.verdict.proofs.LowestBelow.{NoneBelow, lowest-hit, lowest-end}
-use Rattle.verdict.proofs.SoughtRequests.{some-sought, none-sought}
+use Rattle.verdict.proofs.SoughtRequests.{some-sought, none-sought, is-hit, no-hit}
 use borrow.Author.Needs.{needs}
 use Rattle.verdict.proofs.finding.first_with.Statement.{statement}
 use Rattle.verdict.proofs.finding.first_with.Tie as tie
@@ -41,8 +41,11 @@ returns : tie.Need-returns Inv-loop μ-loop
 returns c =
     let a = c .before .before .before .before .before .before .before .before .before .before .args in
     let l = c .before .before .before .before .before .loop in
-    lowest-hit (someAt (a .sought) (a .book .now) (a .order .now)) (a .n) (l .k) (l .inv .1) (c .before .before .before .before .loop-test .taken)
-    (some-sought (a .sought) (a .book .now) (byte (a .order .now) (l .k)) _ _ _ (c .before .before .wide .ensures .0) (c .before .before .before .before .before .before .requests .ensures) (c .before .lowest .ensures) (c .if1 .taken))
+    let w = c .before .before .wide .ensures .0 in
+    let q = c .before .before .before .before .before .before .requests .ensures in
+    let first = some-sought (a .sought) (a .book .now) (byte (a .order .now) (l .k)) _ _ _ w q (c .before .lowest .ensures) (c .if1 .taken) in
+    is-hit (a .sought) (a .book .now) (a .order .now) (a .n) (l .k) _
+    (lowest-hit (someAt (a .sought) (a .book .now) (a .order .now)) (a .n) (l .k) (l .inv .1) (c .before .before .before .before .loop-test .taken) first) _ _ w q (c .before .lowest .ensures)
 
 add-k : tie.Need-add-k Inv-loop μ-loop
 add-k c = search needs
@@ -61,7 +64,8 @@ returns-2 : tie.Need-returns-2 Inv-loop μ-loop
 returns-2 c =
     let a = c .before .before .before .before .before .before .args in
     let l = c .before .loop in
-    lowest-end (someAt (a .sought) (a .book .now) (a .order .now)) (a .n) (l .k) (l .inv .1) (c .loop-test .left) (l .inv .0)
+    no-hit (a .sought) (a .book .now) (a .order .now) (a .n) (l .k) 0
+    (lowest-end (someAt (a .sought) (a .book .now) (a .order .now)) (a .n) (l .k) (l .inv .1) (c .loop-test .left) (l .inv .0)) (c .loop-test .left)
 
 pub first-with-spec : {M : Type 1} → statement M
 first-with-spec =
