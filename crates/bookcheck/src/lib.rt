@@ -1,4 +1,4 @@
-// Rows 12 to 14: what refuses a book. Each row has a test of its own.
+// Rows 12 to 14: what refuses a book. Each row has a test of its own; stated in definitions/specs/Refusal.antt (`bookChecks`).
 ghost use mathlib.Core.Path.{_≡_};
 ghost use Prim.Native.Nat.{_+_, _-_, _*_, _≤_};
 ghost use lib.Dec.{eqb};

@@ -1,4 +1,5 @@
-// From a policy to its book: the situations that histories reach, alike ones joined, numbered by their earliest history, and written as bytes.
+// From a policy to its book: the situations that histories reach, alike ones joined, numbered by their earliest history, and written as bytes. Row 1 (the
+// buffer) and row 11 (over 127 situations) are decided here, rows 2 to 10 in policycheck; stated in definitions/specs/Build.antt and Refusal.antt.
 ghost use mathlib.Core.Path.{_≡_};
 ghost use Prim.Native.Nat.{_+_, _*_, _<_, _≤_};
 ghost use lib.ListN.{length};

@@ -1,4 +1,5 @@
 // The comparison of two books: whether the same histories are possible in both, and else the earliest that is possible in just one.
+// Row 1 (the buffer) and row 15 (the frames) are decided here; stated in definitions/specs/Compare.antt and Refusal.antt.
 ghost use mathlib.Core.Path.{_≡_};
 ghost use Prim.Native.Nat.{_≤_};
 ghost use lib.ListN.{length};

@@ -1,4 +1,4 @@
-// Rows 2 to 10: what a policy file is refused for.
+// Rows 2 to 10: what a policy file is refused for, stated in definitions/specs/Refusal.antt (`fileChecks`).
 mod counts;
 mod layout;
 mod masks;

@@ -1,4 +1,4 @@
-// The verdict on a book: three findings over all histories possible in it.
+// The verdict on a book: three findings over all histories possible in it. Row 1 (the buffers) is decided here; stated in definitions/specs/Verdict.antt.
 ghost use mathlib.Core.Path.{_≡_};
 ghost use Rattle.definitions.specs.Answer.{given};
 ghost use Rattle.definitions.specs.Verdict.{findings, verdictRefusal, verdictAnswer, verdictBuffers};

@@ -1,4 +1,5 @@
-// Walking a book by its bytes and a state: opening, telling, a step. Each call takes rows 12 to 14 again.
+// Walking a book by its bytes and a state: opening, telling, a step. Each call takes rows 12 to 14 again, and then row
+// 16 (the state, the request, the code), which is decided here and stated in definitions/specs/Opened.antt.
 ghost use mathlib.Core.Path.{_≡_};
 ghost use Rattle.definitions.specs.Answer.{given};
 ghost use Rattle.definitions.specs.Opened.{stateHolds, openRefusal, tellAnswer, stepRefusal, stepState};
