@@ -9,6 +9,7 @@ use Rattle.automaton.specs.Explore.{Reached, numberIn, visit, reached}
 use Rattle.automaton.specs.Table.{tabled}
 use Rattle.automaton.specs.Parents.{EarlierParents}
 use Rattle.definitions.specs.Bytes.{byte}
+use Rattle.definitions.specs.Book.{states}
 use Rattle.definitions.specs.Verdict.{statesReached}
 use Rattle.definitions.specs.Rows.{rowsIn, TableIn}
 use Rattle.search.specs.Trail.{firstAt, historyAt}
@@ -45,6 +46,10 @@ foundIn n order trail = listBelow n (reachedAt order trail)
 pub record Holds (found : List Reached) (n : ℕ) (order trail : List ℕ) : Type 0 where
   pub are : foundIn n order trail ≡ found
   pub falls : EarlierParents n (firstAt trail)
+
+-- the first n places of an array have states of a book
+abbrev pub StatesIn : List ℕ → ℕ → List ℕ → Type 0
+StatesIn b n order = (k : ℕ) → k < n → (1 ≤ byte order k) × (byte order k ≤ states b)
 
 -- the number of a state, 0 if it is not found; 0 is no state, and has 1 as if it were found
 abbrev pub numberOf : List Reached → ℕ → ℕ

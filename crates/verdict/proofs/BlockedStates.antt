@@ -26,7 +26,8 @@ use Rattle.definitions.proofs.BlockedHistories.{unanswered-to, unanswered-from,
 use Rattle.search.specs.Trail as Trail
 use Rattle.search.specs.Found.{reachedAt, foundIn, Holds, bookStates}
 use Rattle.verdict.specs.Marks.{marked, unmarkedAt, markedSuccessor, Marks, FixedPoint}
-use Rattle.verdict.proofs.FirstStates.{first-none, first-some, book-first, book-inside, book-leads}
+use Rattle.search.proofs.FirstFound.{first-none, first-some}
+use Rattle.search.proofs.BookSearch.{book-first, book-inside, book-leads}
 
 is-false : (t : Bool) → (t ≡ true → ⊥) → t ≡ false
 is-false true f = absurd (f refl)

@@ -3,10 +3,10 @@ use mathlib.Core.Path.{_≡_}
 use mathlib.Core.Bool.{Bool, true, false, not}
 use mathlib.Core.List.{List}
 use mathlib.Core.Option.{Option}
-use Prim.Native.Nat.{ℕ, _≤_, _<_}
+use Prim.Native.Nat.{ℕ, _<_}
 use Rattle.automaton.specs.Below.{lowestBelow}
 use Rattle.definitions.specs.Bytes.{byte}
-use Rattle.definitions.specs.Book.{states, requests}
+use Rattle.definitions.specs.Book.{requests}
 use Rattle.definitions.specs.Telling.{Telling, none, both, accept, reject, inConflict, unanswered, answered, someRequest}
 use Rattle.definitions.specs.Verdict.{Found, finding}
 use Rattle.verdict.specs.declared.requests.Sought.{Sought}
@@ -40,10 +40,6 @@ testOf Answer = answered
 -- some request is, at the state at place k
 abbrev pub someAt : Sought → List ℕ → List ℕ → ℕ → Bool
 someAt sought b order k = someRequest (testOf sought) b (byte order k)
-
--- the first n places of the array have states of the book
-abbrev pub StatesIn : List ℕ → ℕ → List ℕ → Type 0
-StatesIn b n order = (k : ℕ) → k < n → (1 ≤ byte order k) × (byte order k ≤ states b)
 
 -- place k is the first of n that has a state with a request that is sought, and r its lowest such request; n if there is none
 pub record IsHit (sought : Sought) (b order : List ℕ) (n k r : ℕ) : Type 0 where

@@ -1,7 +1,8 @@
 -- `find` meets its contract: the first place with a request that is sought, its lowest such request and its history.
 use native.Mathlib.Omega.{arith}
 use denote.Ref.{now}
-use Rattle.verdict.proofs.FirstStates.{book-few, book-inside, book-trail, says-none, says-found}
+use Rattle.search.proofs.BookSearch.{book-few, book-inside, book-trail}
+use Rattle.verdict.proofs.RequestFindings.{says-none, says-found}
 use borrow.Author.Needs.{needs}
 use Rattle.verdict.proofs.finding.find.Statement.{statement}
 use Rattle.verdict.proofs.finding.find.Tie as tie

@@ -1,7 +1,7 @@
 -- `find_blocked` meets its contract: the marks are a fixed point, so the first state that is not marked is the first that is blocked.
 use native.Mathlib.Omega.{arith}
 use denote.Ref.{now}
-use Rattle.verdict.proofs.FirstStates.{book-few, book-trail}
+use Rattle.search.proofs.BookSearch.{book-few, book-trail}
 use Rattle.verdict.proofs.BlockedStates.{tells-none, tells-blocked}
 use borrow.Author.Needs.{needs}
 use Rattle.verdict.proofs.finding.find_blocked.Statement.{statement}
