@@ -26,3 +26,5 @@ pub mod BookStates
 pub mod Demands
 pub mod Calls
 pub mod ShelfText
+pub mod PageLines
+pub mod Pages

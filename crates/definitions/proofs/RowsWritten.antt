@@ -34,7 +34,7 @@ concat-append : (A B : List (List ℕ)) → concat (A ++ B) ≡ concat A ++ conc
 concat-append [] B = refl
 concat-append (row ∷ A) B = ap (λ (l : List ℕ). row ++ l) (concat-append A B) ∙ sym (append-assoc row (concat A) (concat B))
 
-row-of-concat : (w : ℕ) (rows : List (List ℕ)) (rest : List ℕ) → Wide w rows → (k : ℕ) → k < length rows → rowIn (concat rows ++ rest) w k ≡ getD rows k []
+pub row-of-concat : (w : ℕ) (rows : List (List ℕ)) (rest : List ℕ) → Wide w rows → (k : ℕ) → k < length rows → rowIn (concat rows ++ rest) w k ≡ getD rows k []
 row-of-concat w [] rest wide k l = absurd (omega arith)
 row-of-concat w (row ∷ rows) rest wide zero l =
     let first : length row ≡ w = wide 0 (omega arith) in

@@ -157,7 +157,7 @@ module _ (b : List ℕ) (ok : BookPassed b) where
   reached-all : length (statesReached b) ≤ states b
   reached-all = reached-few (bookMachine b) 127 refl (states b) (step-inside b ok) (ok .layout .header .statesSome)
 
-  explored : Explored (bookMachine b) (statesReached b)
+  pub explored : Explored (bookMachine b) (statesReached b)
   explored = reached-explored (bookMachine b) 127 refl (le-trans reached-all (ok .layout .header .statesMost))
 
   conflict-holds : FindingHolds (ConflictAfter (bookMachine b) (events b)) b (conflict b)

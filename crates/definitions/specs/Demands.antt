@@ -1,13 +1,13 @@
--- The owner's demands 2 and 3, the states of the book of a policy, row 11 and the levels, and what verdict and compare owe for any book, as statements about
--- histories. proofs/Demands.antt proves each, and proofs/Calls.antt those over the calls.
+-- The owner's demands 2 and 3, the states of the book of a policy, row 11 and the levels, and what verdict, compare and the page owe for any book, as
+-- statements about histories. proofs/Demands.antt proves each, and proofs/Calls.antt those over the calls.
 -- A reader who believes the definitions and these statements needs to believe nothing else.
 use mathlib.Core.Path.{_≡_}
 use mathlib.Core.Bool.{Bool, true, false}
 use mathlib.Core.Logic.{_↔_}
 use mathlib.Core.List.{List, [], _∷_, _++_}
 use mathlib.Core.Option.{Option, none, some}
-use Prim.Native.Nat.{ℕ, _+_, _*_, _≤_, _<_}
-use lib.ListN.{length, getD, take}
+use Prim.Native.Nat.{ℕ, _+_, _-_, _*_, _≤_, _<_}
+use lib.ListN.{length, getD, take, drop}
 use Rattle.automaton.specs.History.{History, Earlier, Earliest}
 use Rattle.automaton.specs.Machine.{Machine, after, possible, DistinctStates, SameHistories, inOne}
 use Rattle.definitions.specs.Policy as P
@@ -19,6 +19,9 @@ use Rattle.definitions.specs.Answer.{Answer, refused, given, written, hi
 use Rattle.definitions.specs.Build.{bookOf, buildAnswer, buildBuffer}
 use Rattle.definitions.specs.Verdict.{Found, Findings, findings, foundHistory, verdictAnswer, Buffers, verdictBuffers, conflict, missing, blocked}
 use Rattle.definitions.specs.Compare.{comparison, compareAnswer, compareBuffer}
+use Rattle.definitions.specs.Telling.{toTelling, telling}
+use Rattle.definitions.specs.Shelf.{blank, newline}
+use Rattle.definitions.specs.Page.{threeColumns, dashes, letter, page}
 
 -- ---- what may happen after a history h in a machine m (a policy's or a book's) with E events and Q requests
 
@@ -188,3 +191,41 @@ pub record CompareIsRight (b d : List ℕ) : Type 0 where
   pub compared : ComparisonIsRight (B.bookMachine b) (B.bookMachine d) (comparison b d)
   -- "with its length: 1 to n + n' − 1"
   pub short : (h : History) → comparison b d ≡ some h → (1 ≤ length h) × (length h < B.states b + B.states d)
+
+-- ---- request 1 of document 02: the page of any book that rows 12 to 14 let pass
+
+-- the columns of a line that show a length
+abbrev pub lengthShown : List ℕ → List ℕ
+lengthShown line = take 3 (drop 4 line)
+
+-- the column of request r
+abbrev pub letterShown : List ℕ → ℕ → ℕ
+letterShown line r = getD line (8 + r) 0
+
+-- the line of state s
+pub record LineIsRight (b : List ℕ) (s : ℕ) (line : List ℕ) : Type 0 where
+  -- "Each line is 72 columns and the byte 10"
+  pub size : length line ≡ 73
+  pub end : getD line 72 0 ≡ newline
+  -- "state number in 3 columns to the right, a blank, .. a blank"
+  pub number : take 3 line ≡ threeColumns s
+  pub blanks : (getD line 3 0 ≡ blank) × (getD line 7 0 ≡ blank)
+  -- "length of its earliest history": where some history leads to the state, one does of which no other is earlier, and its length is shown
+  pub earliest : (h : History) → LeadsTo (B.bookMachine b) s h
+      → (g : History) × Earliest (LeadsTo (B.bookMachine b) s) g × (lengthShown line ≡ threeColumns (length g))
+  -- "States that no history reaches .. show --- as length", and no others
+  pub unreached : (lengthShown line ≡ dashes) ↔ ((h : History) → LeadsTo (B.bookMachine b) s h → ⊥)
+  -- "one letter a request": what may happen to it after any history that leads to the state
+  pub letters : (r : ℕ) → r < B.requests b → (h : History) → LeadsTo (B.bookMachine b) s h
+      → letterShown line r ≡ letter (toTelling (accepts (B.bookMachine b) (B.events b) h r) (rejects (B.bookMachine b) (B.events b) h r))
+  -- and what the state's row says, also where none does
+  pub row : (r : ℕ) → r < B.requests b → letterShown line r ≡ letter (telling b s r)
+  -- "blanks beyond Q"
+  pub beyond : (r : ℕ) → B.requests b ≤ r → r < 64 → letterShown line r ≡ blank
+
+pub record PageIsRight (b : List ℕ) : Type 0 where
+  -- "n × 73 bytes are written", for which 9,271 are enough
+  pub size : length (page b) ≡ B.states b * 73
+  pub room : B.states b * 73 ≤ 9271
+  -- "one line a state"
+  pub lines : (s : ℕ) → StateOf b s → LineIsRight b s (take 73 (drop ((s - 1) * 73) (page b)))

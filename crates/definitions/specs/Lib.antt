@@ -15,5 +15,6 @@ pub mod Compare
 pub mod Opened
 pub mod Decimal
 pub mod Shelf
+pub mod Page
 pub mod Cases
 pub mod Demands
