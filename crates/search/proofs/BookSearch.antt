@@ -16,7 +16,7 @@ use Rattle.definitions.specs.Verdict.{statesReached}
 use Rattle.definitions.proofs.BookSteps.{has-states}
 use Rattle.search.specs.Trail.{firstAt, historyAt}
 use Rattle.search.specs.Found.{foundIn, Holds, StatesIn, bookStates}
-use Rattle.search.proofs.Found.{holds-length, holds-inside, holds-leads, reached-most}
+use Rattle.search.proofs.Found.{holds-length, holds-inside, holds-leads, holds-once, holds-some, reached-most}
 
 module _ (b : List ℕ) {n : ℕ} {order trail : List ℕ} (H : Holds (bookStates b) n order trail) where
   -- the first that passes a test
@@ -32,6 +32,15 @@ module _ (b : List ℕ) {n : ℕ} {order trail : List ℕ} (H : Holds (bookState
     pub book-inside : StatesIn b n order
     unfolding bookStates
     book-inside = holds-inside (bookMachine b) (states b) (has-states b p) H
+
+    -- each state stands at one place
+    pub book-once : (j k : ℕ) → j < k → k < n → byte order j ≡ byte order k → ⊥
+    unfolding bookStates
+    book-once = holds-once (bookMachine b) (states b) (has-states b p) H
+
+    pub book-some : 1 ≤ n
+    unfolding bookStates
+    book-some = holds-some (bookMachine b) (states b) (has-states b p) H
 
     pub book-leads : (k : ℕ) → k < n → after (bookMachine b) 1 (historyAt trail k) ≡ byte order k
     unfolding bookStates

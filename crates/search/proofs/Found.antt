@@ -13,7 +13,7 @@ use Rattle.automaton.specs.History.{History}
 use Rattle.automaton.specs.Machine.{Machine, isState, after}
 use Rattle.automaton.specs.Explore.{Reached, isAt, numberIn, add, unreached, reached}
 use Rattle.automaton.proofs.Below.{length-list-below, getD-list-below, place-other}
-use Rattle.automaton.proofs.Explore.{number-end, stateAt, historyAt as reachedHistory, reached-sound, reached-leads, reached-few}
+use Rattle.automaton.proofs.Explore.{number-end, stateAt, historyAt as reachedHistory, sound-apart, reached-sound, reached-leads, reached-few}
 use Rattle.automaton.proofs.Congruence.{list-below-same}
 use Rattle.automaton.proofs.Machine.{is-state, state-is}
 use Rattle.automaton.proofs.Separation.{HasStates, after-within}
@@ -55,15 +55,27 @@ module _ (m : Machine) (k : ℕ) (has : HasStates m k) where
   pub reached-most : length (reached m 127) ≤ k
   reached-most = reached-few m 127 begins k (has .steps) (has .start .most)
 
-  module _ {n : ℕ} {order trail : List ℕ} (H : Holds (reached m 127) n order trail) (i : ℕ) (l : i < n) where
-    inL : i < length (reached m 127)
-    inL = subst (λ (j : ℕ). i < j) (holds-length H) l
+  module _ {n : ℕ} {order trail : List ℕ} (H : Holds (reached m 127) n order trail) where
+    pub holds-some : 1 ≤ n
+    holds-some = subst (λ (j : ℕ). 1 ≤ j) (sym (holds-length H)) (reached-sound m 127 begins .some)
 
-    pub holds-inside : (1 ≤ byte order i) × (byte order i ≤ k)
-    holds-inside = subst (λ (t : Reached). (1 ≤ t .state) × (t .state ≤ k)) (holds-at H i l) (reached-inside i inL)
+    inL : (i : ℕ) → i < n → i < length (reached m 127)
+    inL i l = subst (λ (j : ℕ). i < j) (holds-length H) l
 
-    pub holds-leads : after m (m .start) (historyAt trail i) ≡ byte order i
-    holds-leads = subst (λ (t : Reached). after m (m .start) (t .history) ≡ t .state) (holds-at H i l) (reached-leads m 127 begins i inL)
+    state-at : (i : ℕ) → i < n → stateAt (reached m 127) i ≡ byte order i
+    state-at i l = ap (λ (t : Reached). t .state) (holds-at H i l)
+
+    -- each state stands at one place
+    pub holds-once : (j k : ℕ) → j < k → k < n → byte order j ≡ byte order k → ⊥
+    holds-once j k b l e =
+        sound-apart m (reached m 127) (reached-sound m 127 begins) j k b (inL k l) (state-at j (omega arith) ∙ e ∙ sym (state-at k l))
+
+    module _ (i : ℕ) (l : i < n) where
+      pub holds-inside : (1 ≤ byte order i) × (byte order i ≤ k)
+      holds-inside = subst (λ (t : Reached). (1 ≤ t .state) × (t .state ≤ k)) (holds-at H i l) (reached-inside i (inL i l))
+
+      pub holds-leads : after m (m .start) (historyAt trail i) ≡ byte order i
+      holds-leads = subst (λ (t : Reached). after m (m .start) (t .history) ≡ t .state) (holds-at H i l) (reached-leads m 127 begins i (inL i l))
 
 -- ---- state x is stored at place n, found from place i by code c
 module _ (n : ℕ) (order trail : List ℕ) (falls : EarlierParents n (firstAt trail)) (roomOrder : n < length order) (roomTrail : 2 * n + 1 < length trail)

@@ -46,7 +46,7 @@ drop-set l j x b =
     drop-cons (set l j x) j 0 (rw length-set b) ∙ rw (getD-set-same l j x 0 b, drop-set-lt (suc j) l j x (omega arith))
 
 module _ (trail : List ℕ) (i : ℕ) (falls : EarlierParents (suc i) (firstAt trail)) where
-  history-empty : (k : ℕ) → k ≡ 0 → historyAt trail k ≡ []
+  pub history-empty : (k : ℕ) → k ≡ 0 → historyAt trail k ≡ []
   history-empty k e = rw e (trail-start (firstAt trail) (secondAt trail))
 
   history-step : (k : ℕ) → 0 < k → k ≤ i → historyAt trail k ≡ historyAt trail (firstAt trail k) ++ (secondAt trail k ∷ [])
@@ -61,7 +61,7 @@ module _ (trail : List ℕ) (i : ℕ) (falls : EarlierParents (suc i) (firstAt t
   pub history-short : length (historyAt trail i) ≤ i
   history-short = trail-length (suc i) (firstAt trail) (secondAt trail) falls i (omega arith)
 
-  step-length : (k : ℕ) → 0 < k → k ≤ i → length (historyAt trail k) ≡ length (historyAt trail (firstAt trail k)) + 1
+  pub step-length : (k : ℕ) → 0 < k → k ≤ i → length (historyAt trail k) ≡ length (historyAt trail (firstAt trail k)) + 1
   step-length k p l = ap length (history-step k p l) ∙ length-append (historyAt trail (firstAt trail k)) (secondAt trail k ∷ [])
 
   -- ---- counting

@@ -33,7 +33,7 @@ then-both {x = x} y z p q = rw (append-assoc x y z) (then p q)
 pub nothing-put : (before : List ℕ) (at : ℕ) → Put before at [] before at
 nothing-put before at = record { stored = refl; ends = sym (add-zero at) }
 
-byte-put : (before : List ℕ) (at b : ℕ) → Put before at (b ∷ []) (set before at b) (at + 1)
+pub byte-put : (before : List ℕ) (at b : ℕ) → Put before at (b ∷ []) (set before at b) (at + 1)
 byte-put before at b = record { stored = refl; ends = refl }
 
 -- the digits of a number by its size

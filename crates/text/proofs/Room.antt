@@ -10,7 +10,7 @@ use Rattle.definitions.specs.Answer.{written}
 use Rattle.text.specs.Put.{Put}
 use Rattle.text.specs.Room.{lengthWithin, writtenWithin}
 
-front : {before text after : List ℕ} {next : ℕ} → Put before 0 text after next → next ≤ length before → after ≡ written text before
+pub front : {before text after : List ℕ} {next : ℕ} → Put before 0 text after next → next ≤ length before → after ≡ written text before
 front {before} {text} p fits =
     let e : 0 + length text ≡ length text = omega arith in
     p .stored ∙ sets-eq text before 0 (omega arith) ∙ rw e

@@ -32,7 +32,7 @@ pub fn put(out: &mut [u8], at: usize, bytes: &[u8]) -> usize
 }
 
 // The last decimal digit of a number.
-fn put_digit(out: &mut [u8], at: usize, n: usize) -> usize
+pub fn put_digit(out: &mut [u8], at: usize, n: usize) -> usize
     requires { ⌜ at < length (now out) ⌝ }
     ensures { λ r. ⌜ Put (now (out .entry)) at (digit n ∷ []) (now (out .exit)) r ⌝ }
 {
@@ -40,7 +40,7 @@ fn put_digit(out: &mut [u8], at: usize, n: usize) -> usize
 }
 
 // The last two.
-fn put_two_digits(out: &mut [u8], at: usize, n: usize) -> usize
+pub fn put_two_digits(out: &mut [u8], at: usize, n: usize) -> usize
     requires { ⌜ at + 2 ≤ length (now out) ⌝ }
     ensures { λ r. ⌜ Put (now (out .entry)) at (digit (n / 10) ∷ digit n ∷ []) (now (out .exit)) r ⌝ }
 {

@@ -1,0 +1,5 @@
+-- Laws that belong to no one function.
+pub mod Columns
+pub mod NotedDepths
+pub mod WrittenLines
+pub mod PageAnswers

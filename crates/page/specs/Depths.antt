@@ -1,0 +1,50 @@
+-- The depth of each state of a book in a search, and a line by its state's depth.
+use mathlib.Core.Path.{_≡_}
+use mathlib.Core.List.{List, [], _∷_, _++_}
+use mathlib.Core.Option.{Option, none, some}
+use Prim.Native.Nat.{ℕ, zero, suc, _*_, _≤_, _<_}
+use lib.Dec.{eqb}
+use lib.ListN.{length}
+use Rattle.automaton.specs.Below.{listBelow}
+use Rattle.automaton.specs.Explore.{Reached, firstThat}
+use Rattle.automaton.specs.Parents.{EarlierParents}
+use Rattle.definitions.specs.Bytes.{byte}
+use Rattle.definitions.specs.Book.{states}
+use Rattle.definitions.specs.Page.{threeColumns, dashes, requestColumn}
+use Rattle.definitions.specs.Shelf.{blank, newline}
+use Rattle.definitions.specs.Verdict.{statesReached}
+use Rattle.search.specs.Trail.{firstAt, historyAt}
+
+-- ---- depths
+-- one more than the length of the history, 0 if there is none
+abbrev pub depthOf : Option Reached → ℕ
+depthOf none = 0
+depthOf (some t) = suc (length (t .history))
+
+-- the arrays of a search that found n states: each state once, each but the first from an earlier place
+pub record Places (order trail : List ℕ) (n : ℕ) : Type 0 where
+  pub few : n ≤ 127
+  pub roomOrder : n ≤ length order
+  pub roomTrail : 2 * n ≤ length trail
+  pub below : (k : ℕ) → k < n → byte order k < 128
+  pub once : (j k : ℕ) → j < k → k < n → byte order j ≡ byte order k → ⊥
+  pub falls : EarlierParents n (firstAt trail)
+
+-- the depths of the states at the first k places, and 0 for every other state
+pub record Noted (order trail : List ℕ) (k : ℕ) (depths : List ℕ) : Type 0 where
+  pub room : 128 ≤ length depths
+  pub found : (j : ℕ) → j < k → byte depths (byte order j) ≡ suc (length (historyAt trail j))
+  pub others : (s : ℕ) → ((j : ℕ) → j < k → byte order j ≡ s → ⊥) → byte depths s ≡ 0
+
+-- the depths of all states of a book
+abbrev pub DepthsOf : List ℕ → List ℕ → Type 0
+DepthsOf b depths = (s : ℕ) → 1 ≤ s → s ≤ states b → byte depths s ≡ depthOf (firstThat (eqb s) (statesReached b))
+
+-- ---- lines
+abbrev pub depthColumns : ℕ → List ℕ
+depthColumns zero = dashes
+depthColumns (suc k) = threeColumns k
+
+-- the line of state s by its depth
+abbrev pub lineOf : List ℕ → ℕ → ℕ → List ℕ
+lineOf b s depth = threeColumns s ++ (blank ∷ (depthColumns depth ++ (blank ∷ (listBelow 64 (requestColumn b s) ++ (newline ∷ [])))))

@@ -1,0 +1,3 @@
+-- The definitions that the contracts of `page` cite.
+pub mod Depths
+pub mod PageAnswer
