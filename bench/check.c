@@ -106,6 +106,15 @@ static void check_compare(uint64_t input, const struct bytes *first, const struc
     same(x == y && memcmp(one, two, sizeof one) == 0, "compare", input);
 }
 
+static void check_page(uint64_t input, const struct bytes *book)
+{
+    static uint8_t one[PAGE_ROOM], two[PAGE_ROOM];
+    memset(one, 0xA5, sizeof one);
+    memset(two, 0xA5, sizeof two);
+    uint64_t x = policybook_page(book->at, book->length, one, sizeof one), y = plain_page(book->at, book->length, two, sizeof two);
+    same(x == y && memcmp(one, two, sizeof one) == 0, "page", input);
+}
+
 int main(int argc, char **argv)
 {
     static struct bytes first, second;
@@ -122,6 +131,7 @@ int main(int argc, char **argv)
         second = first;
         damage(&second);
         check_verdict(i, &second);
+        check_page(i, &second);
         check_compare(i, &first, &second);
     }
     printf("plain C answers as the library on %lu inputs of each call; %lu of the policies have a book, of up to %lu states\n", count, built, longest);

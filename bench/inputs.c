@@ -144,3 +144,11 @@ void late_findings(struct bytes *book)
         *entry(book, s, TELLER - 1) = (uint8_t)(s < STATES ? s + 1 : 0);
     *entry(book, STATES, EVENTS + 1) = STATES;
 }
+
+void half_reached(struct bytes *book)
+{
+    widest_header(book, STATES);
+    accept_all(book, STATES);
+    for (unsigned s = 1; s <= STATES; s++)
+        *entry(book, s, TELLER) = (uint8_t)(s + 2 <= STATES ? s + 2 : 0);
+}

@@ -5,7 +5,7 @@
 #include <stddef.h>
 #include <stdint.h>
 
-enum { BOOK_ROOM = 17284 };
+enum { BOOK_ROOM = 17284, PAGE_ROOM = 9271 };
 
 struct bytes {
     size_t length;
@@ -41,5 +41,8 @@ void all_pairs(struct bytes *first, struct bytes *second);
 
 /* A book of 127 states and 136 codes whose findings come only after 126 codes. */
 void late_findings(struct bytes *book);
+
+/* A book of 127 states and 136 codes in which a history leads to every second state only. */
+void half_reached(struct bytes *book);
 
 #endif

@@ -62,6 +62,18 @@ static void openfst_compare(void *at)
     j->written.answer = (uint64_t)openfst_same(j->first_automaton, j->second_automaton);
 }
 
+static void library_page(void *at)
+{
+    struct job *j = at;
+    j->written.answer = policybook_page(j->first.at, j->first.length, j->written.page, PAGE_ROOM);
+}
+
+static void plainly_page(void *at)
+{
+    struct job *j = at;
+    j->written.answer = plain_page(j->first.at, j->first.length, j->written.page, PAGE_ROOM);
+}
+
 static void library_equal_bytes(void *at)
 {
     struct job *j = at;
@@ -145,6 +157,12 @@ void measure_compare(struct job *j, struct result *result)
     make_automata(j);
     demand(by_openfst(j, openfst_compare) == (answer == 0), "compare and OpenFst");
     measure(j, library_compare, plainly_compare, openfst_compare, result);
+}
+
+void measure_page(struct job *j, struct result *result)
+{
+    agreed(j, library_page, plainly_page, "page");
+    measure(j, library_page, plainly_page, NULL, result);
 }
 
 void measure_equal_bytes(struct job *j, struct result *result)

@@ -13,7 +13,7 @@ struct job {
     struct bytes policy, first, second;
     struct automaton *policy_automaton, *first_automaton, *second_automaton;
     struct written {
-        uint8_t book[BOOK_ROOM], conflict[128], missing[128], blocked[128], history[256];
+        uint8_t book[BOOK_ROOM], conflict[128], missing[128], blocked[128], history[256], page[PAGE_ROOM];
         uint64_t answer;
     } written;
 };
@@ -27,6 +27,7 @@ struct result {
 void measure_build(struct job *job, struct result *result);
 void measure_verdict(struct job *job, struct result *result);
 void measure_compare(struct job *job, struct result *result);
+void measure_page(struct job *job, struct result *result);
 void measure_equal_bytes(struct job *job, struct result *result);
 
 #endif

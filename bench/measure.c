@@ -41,12 +41,13 @@ static void take_book(struct job *j)
     memcpy(j->first.at, j->written.book, j->first.length);
 }
 
-/* All jobs of a policy: its book, the verdict on it, and the book beside itself and beside one with a late difference. */
+/* All jobs of a policy: its book, the verdict on it, its page, and the book beside itself and beside one with a late difference. */
 static void policy_rows(const char *input, struct job *j)
 {
     row("build", input, measure_build, j);
     take_book(j);
     row("verdict", input, measure_verdict, j);
+    row("page", input, measure_page, j);
     j->second = j->first;
     row("compare, same", input, measure_compare, j);
     late_difference(&j->first, &j->second);
@@ -66,6 +67,8 @@ static void book_rows(const char *input, struct job *j)
     row("compare, 253 codes, rows of 10", input, measure_compare, j);
     all_pairs(&j->first, &j->second);
     row("compare, all pairs reached", input, measure_compare, j);
+    half_reached(&j->first);
+    row("page, half of the states reached", input, measure_page, j);
     late_findings(&j->first);
     j->second = j->first;
     row("equal bytes, equal", input, measure_equal_bytes, j);

@@ -1,4 +1,4 @@
-/* plain_book.c: verdict and compare. Breadth-first search over the states of a book, and over the pairs of states of two. */
+/* plain_book.c: verdict, compare and page. Breadth-first search over the states of a book, and over the pairs of states of two. */
 #include "plain.h"
 #include "plain_policy.h"
 
@@ -199,6 +199,59 @@ uint64_t plain_compare(const uint8_t *first, size_t first_len, const uint8_t *se
     if (memcmp(first + 5, second + 5, 6) != 0)
         return 15;
     return 256 * (uint64_t)search_pairs(&x, &y, history);
+}
+
+enum { LINE = 73, UNREACHED = 255 };
+
+/* The length of each state's earliest history. */
+static void find_lengths(const struct book *b, uint8_t *length)
+{
+    struct trail trail;
+    uint8_t order[MOST_STATES];
+    unsigned count = search_states(b, order, &trail);
+    memset(length, UNREACHED, MOST_STATES + 1);
+    length[1] = 0;
+    for (unsigned i = 1; i < count; i++)
+        length[order[i]] = (uint8_t)(length[order[trail.from[i]]] + 1);
+}
+
+/* A number of up to three digits, to the right of three columns that are blank. */
+static void put_number(uint8_t *columns, unsigned number)
+{
+    columns[2] = (uint8_t)('0' + number % 10);
+    if (number >= 10)
+        columns[1] = (uint8_t)('0' + number / 10 % 10);
+    if (number >= 100)
+        columns[0] = (uint8_t)('0' + number / 100);
+}
+
+static void write_line(const struct book *b, unsigned state, unsigned length, uint8_t *line)
+{
+    const uint8_t *row = row_of(b, state) + b->events;
+    memset(line, ' ', LINE - 1);
+    put_number(line, state);
+    if (length == UNREACHED)
+        memcpy(line + 4, "---", 3);
+    else
+        put_number(line + 4, length);
+    for (unsigned r = 0; r < b->requests; r++)
+        line[8 + r] = (uint8_t)".ARB"[(row[2 * r] != 0) + 2 * (row[2 * r + 1] != 0)];
+    line[LINE - 1] = '\n';
+}
+
+uint64_t plain_page(const uint8_t *book, size_t book_len, uint8_t *page, size_t page_len)
+{
+    struct book b;
+    uint8_t length[MOST_STATES + 1];
+    if (page_len < MOST_STATES * LINE)
+        return 1;
+    unsigned refusal = read_book(book, book_len, &b);
+    if (refusal != 0)
+        return refusal;
+    find_lengths(&b, length);
+    for (unsigned s = 1; s <= b.states; s++)
+        write_line(&b, s, length[s], page + (s - 1) * LINE);
+    return 256 * (uint64_t)(b.states * LINE);
 }
 
 int plain_same_bytes(const uint8_t *first, size_t first_len, const uint8_t *second, size_t second_len)

@@ -4,6 +4,7 @@
  *   answers shelf POLICY          the number of states and the three findings of a policy
  *   answers verdict BOOK          the three findings of a book
  *   answers compare BOOK BOOK     same, or the earliest history possible in just one
+ *   answers page FILE             the page of the book of a policy, or of a book, told apart by their marks
  * A refusal is the line `refused N`, with its meaning on standard error. Exit status: 0 for every answer, 2 for bad usage or files.
  */
 #include <stdio.h>
@@ -72,6 +73,14 @@ static void compare(struct bytes first, struct bytes second)
     free(history);
 }
 
+static void page(struct bytes book)
+{
+    uint8_t *lines = lent_buffer(POLICYBOOK_PAGE_SIZE, 0);
+    uint64_t answer = policybook_page(book.data, book.length, lines, POLICYBOOK_PAGE_SIZE);
+    if (!is_refused(answer)) fwrite(lines, 1, (size_t)policybook_value_of(answer), stdout);
+    free(lines);
+}
+
 /* The book of a policy, with no byte to spare. 0 if it is refused. */
 static int build(struct bytes policy, struct bytes *book)
 {
@@ -124,6 +133,21 @@ static int with_books(const char *first_name, const char *second_name)
     return readable ? 0 : 2;
 }
 
+/* Prints the page of a book, or of a policy's. The exit status. */
+static int with_either(const char *name)
+{
+    struct bytes file, book;
+    if (!read_file(name, BOOK_READ, &file)) return 2;
+    if (file.length >= 3 && memcmp(file.data, "BOK", 3) == 0) {
+        page(file);
+    } else if (build(file, &book)) {
+        page(book);
+        free(book.data);
+    }
+    free(file.data);
+    return 0;
+}
+
 int main(int argc, char **argv)
 {
     const char *command = argc > 1 ? argv[1] : "";
@@ -131,6 +155,7 @@ int main(int argc, char **argv)
     if (argc == 3 && strcmp(command, "shelf") == 0) return with_policy(argv[2], NULL);
     if (argc == 3 && strcmp(command, "verdict") == 0) return with_books(argv[2], NULL);
     if (argc == 4 && strcmp(command, "compare") == 0) return with_books(argv[2], argv[3]);
-    fprintf(stderr, "usage: answers build POLICY OUT | shelf POLICY | verdict BOOK | compare BOOK BOOK\n");
+    if (argc == 3 && strcmp(command, "page") == 0) return with_either(argv[2]);
+    fprintf(stderr, "usage: answers build POLICY OUT | shelf POLICY | verdict BOOK | compare BOOK BOOK | page FILE\n");
     return 2;
 }

@@ -1,5 +1,5 @@
 /*
- * policybook.h: building, judging and comparing policy books, for C99 and later and for C++.
+ * policybook.h: building, judging and comparing policy books, and writing their pages, for C99 and later and for C++.
  *
  * A policy file holds access rules. Its book is a table that says, after every history of events and decided requests, which steps are
  * possible next. A step is one byte, its code; a history is a list of codes. docs/FORMATS.md describes policies, books and codes byte by byte.
@@ -11,7 +11,7 @@
  *     else
  *         book_length = (size_t)policybook_value_of(answer);   // the book is the first book_length bytes of the buffer
  *
- * The three functions are proved: for every input they end, read and write only what is lent to them, and answer as docs/C-INTERFACE.md says.
+ * The four functions are proved: for every input they end, read and write only what is lent to them, and answer as docs/C-INTERFACE.md says.
  * They keep no state, allocate nothing, set no errno, and may be called from several threads at once. The inline functions below are plain C.
  *
  * An answer is one number. Modulo 256 it is the number of a refusal, 0 where nothing is refused; divided by 256 it is the value.
@@ -23,7 +23,7 @@
  *   - about 128 kB of stack are free.
  * Nothing else is asked: any bytes may be given as a policy or as a book, and any length.
  *
- * Link with target/staticlib/libpolicybook.a, which `rt staticlib policybook` writes. Examples: host/sample.c, host/answers.c.
+ * Link with target/staticlib/libpolicybook.a, which `rt staticlib policybook` writes. Examples: host/sample.c, host/page.c, host/answers.c.
  */
 #ifndef POLICYBOOK_H
 #define POLICYBOOK_H
@@ -39,6 +39,7 @@ extern "C" {
 #define POLICYBOOK_BOOK_SIZE    17284 /* build: the book; no book is longer */
 #define POLICYBOOK_FINDING_SIZE   128 /* verdict: each of the three histories, of at most 126 codes */
 #define POLICYBOOK_HISTORY_SIZE   256 /* compare: the history, of at most 253 codes */
+#define POLICYBOOK_PAGE_SIZE     9271 /* page: the page; none is longer */
 
 /* No policy is longer. A host that reads one byte more of a longer file gets the refusal that the whole file would get. */
 #define POLICYBOOK_POLICY_MOST    749
@@ -57,7 +58,7 @@ enum policybook_refusal {
     POLICYBOOK_RULE_VALUE = 9,        /* a decision, test or change is outside its values */
     POLICYBOOK_VALUATIONS = 10,       /* there are over 64 valuations of the variables */
     POLICYBOOK_SITUATIONS = 11,       /* over 127 situations are reached */
-    POLICYBOOK_BOOK_HEADER = 12,      /* the book has under 12 bytes, or another mark or version (12 to 14: verdict and compare) */
+    POLICYBOOK_BOOK_HEADER = 12,      /* the book has under 12 bytes, or another mark or version (12 to 14: verdict, compare and page) */
     POLICYBOOK_BOOK_LAYOUT = 13,      /* a number of its header is outside its range, or its length does not follow from them */
     POLICYBOOK_BOOK_ENTRY = 14,       /* an entry is above the number of states, or 0 for an event */
     POLICYBOOK_FRAMES = 15            /* the two books differ in their events or value counts (compare) */
@@ -89,12 +90,23 @@ uint64_t policybook_verdict(const uint8_t *book, size_t book_len, uint8_t *confl
 uint64_t policybook_compare(const uint8_t *first, size_t first_len, const uint8_t *second, size_t second_len,
                             uint8_t *history, size_t history_len);
 
+/*
+ * Writes the page of a book, to be printed as it is; page has room for POLICYBOOK_PAGE_SIZE bytes. A line a state, in the order of their
+ * numbers, each of 72 columns and the byte 10:
+ *   columns 1 to 3:   the state's number, to the right
+ *   columns 5 to 7:   the length of its earliest history, to the right; --- if no history leads to it
+ *   columns 9 to 72:  a letter for each request from 0 on: A may be accepted only, R rejected only, B both, . neither; then blanks
+ * Refused with 1 or 12 to 14. Else the value is the page's length, 73 times the number of states; bytes after the page stay.
+ */
+uint64_t policybook_page(const uint8_t *book, size_t book_len, uint8_t *page, size_t page_len);
+
 /* ---- Taking an answer apart ---- */
 
 /* The refusal's number, or POLICYBOOK_OK. */
 static inline unsigned policybook_refusal_of(uint64_t answer) { return (unsigned)(answer % 256); }
 
-/* The value: a book's length (build), a history's length or 0 for same (compare), the packed findings (verdict). 0 on a refusal. */
+/* The value: a book's length (build), the packed findings (verdict), a history's length or 0 for same (compare), a page's length (page). 0 on a
+ * refusal. */
 static inline uint64_t policybook_value_of(uint64_t answer) { return answer / 256; }
 
 /* One finding of a verdict. Where found is 0, so are the other two. */
@@ -145,7 +157,7 @@ static inline const char *policybook_refusal_text(unsigned number)
     }
 }
 
-/* ---- Reading a book that was built, or that verdict or compare did not refuse ---- */
+/* ---- Reading a book that was built, or that verdict, compare or page did not refuse ---- */
 
 /* How many events, requests and states the book has. */
 static inline unsigned policybook_events_of(const uint8_t *book) { return book[5]; }

@@ -156,6 +156,69 @@ static void test_compare(void)
     free(empty.data);
 }
 
+/* The 62 columns of a page beyond two requests. */
+#define BLANKS "                                                              "
+
+static void expect_page(struct bytes book, size_t size, uint64_t wanted, const char *lines, size_t length)
+{
+    uint8_t *buffer = lent_buffer(size, FILLED);
+    CHECK(policybook_page(book.data, book.length, buffer, size) == wanted);
+    CHECK(begins_with(buffer, size, (const uint8_t *)lines, length));
+    free(buffer);
+}
+
+static void test_page(void)
+{
+    static const char page_e[] = "  1   0 AA" BLANKS "\n  2   1 AA" BLANKS "\n  3   2 BR" BLANKS "\n";
+    static const char page_unreached[] = "  1   0 AR" BLANKS "\n  2 --- .B" BLANKS "\n";
+    static const uint8_t book_unreached[] = { 0x42, 0x4F, 0x4B, 0x00, 0x01, 0x00, 0x01, 0x02, 0x00, 0x00, 0x00, 0x02, 1, 0, 0, 1, 0, 0, 1, 2 };
+    const size_t length = sizeof page_e - 1, other_length = sizeof page_unreached - 1;
+    struct bytes e = exact_copy(book_e, sizeof book_e), unreached = exact_copy(book_unreached, sizeof book_unreached);
+    CHECK(length == 3 * 73);
+    expect_page(e, POLICYBOOK_PAGE_SIZE, 256 * length, page_e, length);
+    expect_page(e, POLICYBOOK_PAGE_SIZE + 7, 256 * length, page_e, length);
+    expect_page(unreached, POLICYBOOK_PAGE_SIZE, 256 * other_length, page_unreached, other_length);
+    free(e.data);
+    free(unreached.data);
+}
+
+static void test_page_refused(void)
+{
+    struct bytes e = exact_copy(book_e, sizeof book_e), cut = exact_copy(book_e, sizeof book_e - 1), empty = exact_copy(book_e, 0);
+    expect_page(e, POLICYBOOK_PAGE_SIZE - 1, POLICYBOOK_SHORT_BUFFER, "", 0);
+    expect_page(e, 3 * 73, POLICYBOOK_SHORT_BUFFER, "", 0);
+    expect_page(e, 0, POLICYBOOK_SHORT_BUFFER, "", 0);
+    expect_page(empty, POLICYBOOK_PAGE_SIZE - 1, POLICYBOOK_SHORT_BUFFER, "", 0);
+    expect_page(empty, POLICYBOOK_PAGE_SIZE, POLICYBOOK_BOOK_HEADER, "", 0);
+    expect_page(cut, POLICYBOOK_PAGE_SIZE, POLICYBOOK_BOOK_LAYOUT, "", 0);
+    e.data[e.length - 1] = 4;
+    expect_page(e, POLICYBOOK_PAGE_SIZE, POLICYBOOK_BOOK_ENTRY, "", 0);
+    free(e.data);
+    free(cut.data);
+    free(empty.data);
+}
+
+/* The longest page fills its buffer: 127 states and 64 requests, every step possible; request 63 rejected leads to the next state, all others stay. */
+static void test_longest_page(void)
+{
+    enum { STATES = 127, WIDTH = 128 };
+    static const uint8_t header[12] = { 0x42, 0x4F, 0x4B, 0x00, 0x01, 0x00, 0x02, 0x10, 0x04, 0x00, 0x00, STATES };
+    uint8_t *data = lent_buffer(12 + STATES * WIDTH, 0), *page = lent_buffer(POLICYBOOK_PAGE_SIZE, FILLED);
+    char line[74];
+    memcpy(data, header, sizeof header);
+    for (int state = 1; state <= STATES; state++) {
+        memset(data + 12 + (state - 1) * WIDTH, state, WIDTH);
+        if (state < STATES) data[12 + state * WIDTH - 1]++;
+    }
+    CHECK(policybook_page(data, 12 + STATES * WIDTH, page, POLICYBOOK_PAGE_SIZE) == (uint64_t)256 * POLICYBOOK_PAGE_SIZE);
+    for (int state = 1; state <= STATES; state++) {
+        snprintf(line, sizeof line, "%3d %3d %s\n", state, state - 1, "BBBBBBBBBBBBBBBBBBBBBBBBBBBBBBBBBBBBBBBBBBBBBBBBBBBBBBBBBBBBBBBB");
+        CHECK(memcmp(page + (state - 1) * 73, line, 73) == 0);
+    }
+    free(data);
+    free(page);
+}
+
 static void test_reading(void)
 {
     struct policybook_step event = policybook_step_of(book_e, 0);
@@ -175,6 +238,9 @@ int main(void)
     test_verdict();
     test_verdict_refused();
     test_compare();
+    test_page();
+    test_page_refused();
+    test_longest_page();
     test_reading();
     printf("host/test.c: %s\n", failures == 0 ? "every check holds" : "FAILED");
     return failures == 0 ? 0 : 1;

@@ -37,3 +37,7 @@ pub fn compare(first: &[u8], second: &[u8], history: &mut [u8]) -> u64 {
         },
     )
 }
+
+pub fn page(book: &[u8], page: &mut [u8]) -> u64 {
+    packed(entry::page(book, page), |length| length as u64)
+}

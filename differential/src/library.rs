@@ -27,6 +27,12 @@ mod foreign {
             history: *mut u8,
             history_len: usize,
         ) -> u64;
+        pub fn policybook_page(
+            book: *const u8,
+            book_len: usize,
+            page: *mut u8,
+            page_len: usize,
+        ) -> u64;
     }
 }
 
@@ -68,4 +74,10 @@ pub fn compare(first: &[u8], second: &[u8], history: &mut [u8]) -> u64 {
             history.len(),
         )
     }
+}
+
+/// The answer of page on a book; the page is written to the buffer.
+pub fn page(book: &[u8], page: &mut [u8]) -> u64 {
+    // SAFETY: as for build.
+    unsafe { foreign::policybook_page(book.as_ptr(), book.len(), page.as_mut_ptr(), page.len()) }
 }

@@ -19,7 +19,8 @@ struct Tally {
     inputs: u64,
     differences: u64,
     refusals: BTreeMap<u64, u64>,
-    longest: u64,
+    /// The greatest value: for compare and page, a length.
+    greatest: u64,
 }
 
 impl Tally {
@@ -27,7 +28,7 @@ impl Tally {
     fn note<T: PartialEq>(&mut self, given: (u64, T), wanted: (u64, T), input: &str) {
         self.inputs += 1;
         *self.refusals.entry(wanted.0 % 256).or_default() += 1;
-        self.longest = self.longest.max((wanted.0 / 256) & 0xFF);
+        self.greatest = self.greatest.max(wanted.0 / 256);
         if given.0 != wanted.0 || given.1 != wanted.1 {
             if self.differences == 0 {
                 let buffers = if given.1 == wanted.1 {
@@ -120,20 +121,55 @@ fn built(policy: &[u8]) -> Vec<u8> {
     }
 }
 
-fn verdicts(count: u64, seed: u64) -> Tally {
-    let mut tally = Tally::default();
-    for i in seed..seed + count {
-        let (kind, book) = some_book(i);
+/// Verdict and page, on the same books.
+#[derive(Default)]
+struct OfBooks {
+    verdict: Tally,
+    page: Tally,
+    /// How many pages have a state that no history leads to.
+    unreached: u64,
+    /// How many pages are of 127 states and 64 requests.
+    fullest: u64,
+}
+
+impl OfBooks {
+    fn note_verdict(&mut self, i: u64, book: &[u8], input: &str) {
         let mut random = Random::new(i, "verdict's buffers");
         let mut given = [(); 3].map(|_| lent(&mut random, 128));
         let mut wanted = given.clone();
         let [a, b, c] = &mut given;
-        let first = library::verdict(&book, a, b, c);
+        let first = library::verdict(book, a, b, c);
         let [a, b, c] = &mut wanted;
-        let second = expected::verdict(&book, a, b, c);
-        tally.note((first, given), (second, wanted), &format!("{kind} {i}"));
+        let second = expected::verdict(book, a, b, c);
+        self.verdict.note((first, given), (second, wanted), input);
     }
-    tally
+
+    fn note_page(&mut self, i: u64, book: &[u8], input: &str) {
+        let mut random = Random::new(i, "page's buffer");
+        let mut given = lent(&mut random, 9_271);
+        let mut wanted = given.clone();
+        let answers = (
+            library::page(book, &mut given),
+            expected::page(book, &mut wanted),
+        );
+        let written = &wanted[..(answers.1 / 256) as usize];
+        let lines = written.chunks(73);
+        self.unreached += u64::from(lines.into_iter().any(|line| &line[4..7] == b"---"));
+        self.fullest += u64::from(written.len() == 9_271 && written[71] != b' ');
+        self.page
+            .note((answers.0, given), (answers.1, wanted), input);
+    }
+}
+
+fn of_books(count: u64, seed: u64) -> OfBooks {
+    let mut noted = OfBooks::default();
+    for i in seed..seed + count {
+        let (kind, book) = some_book(i);
+        let input = format!("{kind} {i}");
+        noted.note_verdict(i, &book, &input);
+        noted.note_page(i, &book, &input);
+    }
+    noted
 }
 
 /// Two books: of two related policies, foreign ones of one frame, ones that differ as late as they can, or faulty ones.
@@ -188,15 +224,23 @@ fn main() -> ExitCode {
         return ExitCode::from(2);
     };
     println!("seeds {seed} to {}", seed + count - 1);
+    let build = builds(count, seed);
+    let of_books = of_books(count, seed);
+    let compare = compares(count, seed);
     let tallies = [
-        ("build", builds(count, seed)),
-        ("verdict", verdicts(count, seed)),
-        ("compare", compares(count, seed)),
+        ("build", &build),
+        ("verdict", &of_books.verdict),
+        ("compare", &compare),
+        ("page", &of_books.page),
     ];
     for (call, tally) in &tallies {
         tally.print(call);
     }
-    println!("longest difference: {} codes", tallies[2].1.longest);
+    println!("longest difference: {} codes", compare.greatest);
+    println!(
+        "longest page: {} bytes; pages of 127 states and 64 requests: {}; with a state that no history leads to: {}",
+        of_books.page.greatest, of_books.fullest, of_books.unreached
+    );
     match tallies.iter().all(|(_, tally)| tally.differences == 0) {
         true => ExitCode::SUCCESS,
         false => ExitCode::FAILURE,

@@ -15,7 +15,7 @@ use crate::rules::Table;
 pub type File = (String, Vec<u8>);
 
 /// The folder as the answers name it, from the root of the repository.
-const FOLDER: &str = "docs/guide";
+pub(crate) const FOLDER: &str = "docs/guide";
 
 /// The book of a lesson's table.
 pub fn book_of(table: &Table) -> Book {
@@ -46,13 +46,13 @@ pub fn files_of(lesson: &Lesson) -> Vec<File> {
     files
 }
 
-fn policy_files(name: &str, table: &Table) -> Vec<File> {
+pub(crate) fn policy_files(name: &str, table: &Table) -> Vec<File> {
     let mut files = vec![(format!("{name}.policy"), policy::write(&table.policy))];
     files.extend(book_files(name, table, &book_of(table)));
     files
 }
 
-fn book_files(name: &str, table: &Table, book: &Book) -> Vec<File> {
+pub(crate) fn book_files(name: &str, table: &Table, book: &Book) -> Vec<File> {
     vec![
         (format!("{name}.book"), book.to_bytes()),
         (

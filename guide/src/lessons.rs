@@ -62,7 +62,11 @@ pub fn lessons() -> [Lesson; 8] {
 const MIDNIGHT: [&str; 1] = ["midnight"];
 
 /// A table whose one event, midnight, sets every variable to zero.
-fn daily(requests: &[&'static str], variables: &[&'static str], rules: Vec<Rule>) -> Table {
+pub(crate) fn daily(
+    requests: &[&'static str],
+    variables: &[&'static str],
+    rules: Vec<Rule>,
+) -> Table {
     table(&MIDNIGHT, requests, variables, rules, Change::SetToZero)
 }
 

@@ -1,8 +1,10 @@
-//! The guide for rule writers and trainers: eight errors, each with a policy, its
+//! The guide. For rule writers and trainers: eight errors, each with a policy, its
 //! book, the book that the error gives, and the earliest history that shows it.
+//! For the file room: how to read the page of a book.
 
 pub mod files;
 pub mod lessons;
 pub mod mistakes;
+pub mod pages;
 pub mod rules;
 pub mod text;

@@ -11,6 +11,7 @@ use std::{env, fs};
 
 use guide::files::{answers, files_of};
 use guide::lessons::lessons;
+use guide::pages::{examples, Example};
 use guide::text::filled;
 
 fn main() -> ExitCode {
@@ -29,7 +30,7 @@ fn main() -> ExitCode {
 }
 
 fn write_all(template: &str, folder: &Path) -> Result<(), String> {
-    let lessons = lessons();
+    let (lessons, examples) = (lessons(), examples());
     let template =
         fs::read_to_string(template).map_err(|error| format!("cannot read {template}: {error}"))?;
     let inner = folder.join("guide");
@@ -37,10 +38,13 @@ fn write_all(template: &str, folder: &Path) -> Result<(), String> {
         .map_err(|error| format!("cannot make {}: {error}", inner.display()))?;
     write(
         &folder.join("GUIDE.md"),
-        filled(&template, &lessons)?.as_bytes(),
+        filled(&template, &lessons, &examples)?.as_bytes(),
     )?;
-    write(&inner.join("answers.txt"), answers(&lessons).as_bytes())?;
-    for (name, bytes) in lessons.iter().flat_map(files_of) {
+    let of_pages: String = examples.iter().map(Example::answers).collect();
+    let answers = answers(&lessons) + &of_pages;
+    write(&inner.join("answers.txt"), answers.as_bytes())?;
+    let of_lessons = lessons.iter().flat_map(files_of);
+    for (name, bytes) in of_lessons.chain(examples.iter().flat_map(Example::files)) {
         write(&inner.join(name), &bytes)?;
     }
     Ok(())

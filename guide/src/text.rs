@@ -1,17 +1,20 @@
-//! Filling the guide's text: a line `{{what lesson}}` stands for what is computed.
+//! Filling the guide's text: a line `{{what lesson}}`, or with an example of the
+//! file room's for the lesson, stands for what is computed.
 
 use reference::findings::{findings, RequestFinding};
+use reference::page::page;
 use reference::words::Names;
 
 use crate::files::{book_of, earliest, mistaken_book};
 use crate::lessons::{Lesson, Mistaken};
+use crate::pages::Example;
 use crate::rules::Table;
 
 const NOTE: &str =
-    "<!-- Made by guide/make from guide/guide.md and the policies of guide/src/lessons.rs. -->\n";
+    "<!-- Made by guide/make from guide/guide.md and the policies of guide/src/lessons.rs and guide/src/pages.rs. -->\n";
 
 /// The guide's text with every place filled, or which line asks for nothing known.
-pub fn filled(template: &str, lessons: &[Lesson]) -> Result<String, String> {
+pub fn filled(template: &str, lessons: &[Lesson], examples: &[Example]) -> Result<String, String> {
     let mut text = NOTE.to_string();
     for line in template.lines() {
         match line
@@ -20,8 +23,10 @@ pub fn filled(template: &str, lessons: &[Lesson]) -> Result<String, String> {
         {
             None => text.push_str(line),
             Some(place) => {
-                let part = part(place, lessons).ok_or(format!("nothing is known of: {line}"))?;
-                text.push_str(part.trim_end());
+                let part = part(place, lessons)
+                    .or_else(|| of_example(place, examples))
+                    .ok_or(format!("nothing is known of: {line}"))?;
+                text.push_str(part.trim_end_matches('\n'));
             }
         }
         text.push('\n');
@@ -44,8 +49,28 @@ fn part(place: &str, lessons: &[Lesson]) -> Option<String> {
         "picture" => picture(name),
         "mistaken-picture" => picture(&format!("{name}-mistaken")),
         "mended-picture" => picture(&format!("{name}-mended")),
+        "page" => page(&book_of(&lesson.table)),
         "tried" => tried(lesson),
         "earliest" => earliest_in_words(lesson),
+        _ => return None,
+    })
+}
+
+/// What stands for an example of the file room's.
+fn of_example(place: &str, examples: &[Example]) -> Option<String> {
+    let (what, rest) = place.split_once(' ')?;
+    let mut words = rest.split(' ');
+    let name = words.next()?;
+    let example = examples.iter().find(|example| example.name == name)?;
+    Some(match what {
+        "rules" => rules(name, &example.table),
+        "picture" => picture(name),
+        "page" => page(&example.book),
+        "lines" => example.lines_in_words(),
+        "walk" => {
+            let codes: Option<Vec<u8>> = words.map(|code| code.parse().ok()).collect();
+            example.walked_in_words(&codes?)
+        }
         _ => return None,
     })
 }

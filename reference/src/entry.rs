@@ -4,6 +4,7 @@
 use crate::book::{self, MOST_LENGTH};
 use crate::compare::{self, Comparison};
 use crate::findings::{findings, RequestFinding};
+use crate::page;
 use crate::refusal::Refusal;
 
 /// The least size of the buffer of build.
@@ -12,6 +13,8 @@ pub const BUILD_BUFFER: usize = MOST_LENGTH;
 pub const VERDICT_BUFFER: usize = 128;
 /// The least size of the buffer of compare.
 pub const COMPARE_BUFFER: usize = 256;
+/// The least size of the buffer of page.
+pub const PAGE_BUFFER: usize = page::MOST_LENGTH;
 
 /// A finding about a request, whose history stands in the lent buffer.
 #[derive(Clone, Copy, Debug, PartialEq, Eq)]
@@ -85,6 +88,15 @@ pub fn compare(first: &[u8], second: &[u8], buffer: &mut [u8]) -> Result<Compare
         Comparison::Same => Compared::Same,
         Comparison::Differ(history) => Compared::Differ(write(&history, buffer)),
     })
+}
+
+/// Writes the page of a book and gives its length.
+pub fn page(book: &[u8], buffer: &mut [u8]) -> Result<usize, Refusal> {
+    if buffer.len() < PAGE_BUFFER {
+        return Err(Refusal::Buffer);
+    }
+    let text = page::page(&book::read(book)?);
+    Ok(write(text.as_bytes(), buffer))
 }
 
 /// Writes bytes at the beginning of a buffer and gives their number.

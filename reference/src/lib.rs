@@ -13,6 +13,7 @@ pub mod generate;
 pub mod hex;
 pub mod host;
 pub mod join;
+pub mod page;
 pub mod play;
 pub mod policy;
 pub mod programs;

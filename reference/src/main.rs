@@ -9,7 +9,7 @@ use reference::compare::{self, Comparison};
 use reference::findings::findings;
 use reference::refusal::Refusal;
 use reference::words::Names;
-use reference::{dot, generate, hex, host, play, programs, shelf};
+use reference::{dot, generate, hex, host, page, play, programs, shelf};
 
 const HELP: &str = "\
 reference book FILE                  print the book of a policy in hexadecimal
@@ -17,6 +17,7 @@ reference shelf FILE                 print what the program shelf prints for a p
 reference play FILE                  print what the program play prints for a book and steps
 reference compare FILE FILE          compare two books
 reference verdict FILE               print the findings about a book
+reference page FILE                  print the page of the book of a policy, or of a book
 reference build FILE OUT             write the book of a policy into the file OUT
 reference generate KIND SEED OUT     write a generated input into the file OUT
 reference host FILE FILE             print what the sample host prints for two policies
@@ -59,6 +60,9 @@ fn run(arguments: &[&str]) -> Result<String, String> {
         )),
         ["verdict", file] => Ok(answer(book::read(&read(file)?), |book: Book| {
             shelf::finding_lines(&findings(&book))
+        })),
+        ["page", file] => Ok(answer(policy_or_book(&read(file)?), |book| {
+            page::page(&book)
         })),
         ["build", file, out] => write_book(file, out),
         ["generate", kind, seed, out] => write_generated(kind, seed, out),
@@ -123,13 +127,16 @@ fn write_generated(kind: &str, seed: &str, out: &str) -> Result<String, String> 
     write(out, &bytes).map(|()| String::new())
 }
 
-/// A policy or a book, told by its mark.
-fn print_dot(bytes: &[u8], names: &[&str]) -> Result<String, String> {
-    let result = match bytes.starts_with(b"BOK") {
+/// The book of a policy, or a book; the two are told apart by their marks.
+fn policy_or_book(bytes: &[u8]) -> Result<Book, Refusal> {
+    match bytes.starts_with(b"BOK") {
         true => book::read(bytes),
         false => book::build(bytes),
-    };
-    let book = match result {
+    }
+}
+
+fn print_dot(bytes: &[u8], names: &[&str]) -> Result<String, String> {
+    let book = match policy_or_book(bytes) {
         Ok(book) => book,
         Err(refusal) => return Ok(answer(Err(refusal), |()| String::new())),
     };

@@ -108,6 +108,27 @@ fn verdict_prints_the_findings_of_a_book() {
 }
 
 #[test]
+fn page_prints_the_lines_of_a_policy_or_a_book() {
+    let expected = format!(
+        "{:<72}\n{:<72}\n{:<72}\n",
+        "  1   0 AA", "  2   1 AA", "  3   2 BR"
+    );
+    for input in [policy_e(), book_bytes(&policy_e())] {
+        assert_eq!(
+            text(&run(&["page", "-"], &input)),
+            (expected.as_str(), Some(0))
+        );
+    }
+    for (input, refused) in [
+        (&b""[..], "refused 2\n"),
+        (b"BOK", "refused 12\n"),
+        (&policy_s(7), "refused 11\n"),
+    ] {
+        assert_eq!(text(&run(&["page", "-"], input)), (refused, Some(0)));
+    }
+}
+
+#[test]
 fn build_writes_the_book() {
     let out = file("built.bok", b"");
     assert_eq!(
@@ -163,7 +184,7 @@ fn help_is_an_answer() {
     let (help, status) = text(&output);
     assert_eq!(status, Some(0));
     for command in [
-        "book", "shelf", "compare", "verdict", "build", "generate", "host", "dot", "help",
+        "book", "shelf", "compare", "verdict", "page", "build", "generate", "host", "dot", "help",
     ] {
         assert!(help.contains(&format!("reference {command}")));
     }

@@ -32,12 +32,14 @@ fn row_1() {
         Ok(entry::Compared::Same)
     );
     for book in [&a[..], &[]] {
+        assert_eq!(entry::page(book, &mut [0; 9_270]), Err(Refusal::Buffer));
         for sizes in [[127, 128, 128], [128, 127, 128], [128, 128, 127], [0, 0, 0]] {
             let [mut one, mut two, mut three] = sizes.map(|size| vec![0; size]);
             let answer = entry::verdict(book, &mut one, &mut two, &mut three);
             assert_eq!(answer, Err(Refusal::Buffer));
         }
     }
+    assert_eq!(entry::page(&a, &mut [0; 9_271]), Ok(219));
     let [mut one, mut two, mut three] = [[0; 128]; 3];
     assert!(entry::verdict(&a, &mut one, &mut two, &mut three).is_ok());
 }
