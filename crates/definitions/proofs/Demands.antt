@@ -1,5 +1,5 @@
--- The owner's demands 2 and 3, the states of the book of a policy, row 11 and the levels, and what verdict and compare owe for any book. No theorem here has a
--- hypothesis beyond this: the policies are accepted, or for row 11 rows 2 to 10 let the file pass, or the books pass the checks and, where two are compared, have
+-- The owner's demands 2 and 3, the states of the book of a policy, row 11 and the levels, and what verdict, compare and the page owe for any book. No theorem here
+-- has a hypothesis beyond this: the policies are accepted, or for row 11 rows 2 to 10 let the file pass, or the books pass the checks and, where two are compared, have
 -- one frame.
 use mathlib.Core.Path.{_≡_, sym, ap, _∙_, subst₂}
 use mathlib.Core.List.{List}
@@ -20,6 +20,8 @@ use Rattle.definitions.proofs.SameHistories.{findings-along, comparison
 pub use Rattle.definitions.proofs.Verdicts.{verdict-right}
 -- compare-right : (b d : List ℕ) → bookRefusal b ≡ 0 → bookRefusal d ≡ 0 → frame b ≡ frame d → CompareIsRight b d
 pub use Rattle.definitions.proofs.Comparisons.{compare-right}
+-- page-right : (b : List ℕ) → bookRefusal b ≡ 0 → PageIsRight b
+pub use Rattle.definitions.proofs.Pages.{page-right}
 -- states-right : (p : List ℕ) → Accepted p → StatesAreRight (policyMachine p) (bookOf p)
 pub use Rattle.definitions.proofs.BookStates.{states-right}
 -- row11-right : (p : List ℕ) → fileRefusal p ≡ 0 → Row11IsRight p

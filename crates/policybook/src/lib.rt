@@ -1,15 +1,14 @@
-// The library for C: build, verdict and compare on byte slices, each answer packed into one number.
+// The library for C: build, verdict, compare and page on byte slices, each answer packed into one number.
 ghost use mathlib.Core.Path.{_≡_};
 ghost use Rattle.definitions.specs.Build.{buildAnswer, buildBuffer};
 ghost use Rattle.definitions.specs.Verdict.{verdictAnswer, verdictBuffers};
 ghost use Rattle.definitions.specs.Compare.{compareAnswer, compareBuffer};
+ghost use Rattle.definitions.specs.Page.{pageAnswer, pageBuffer};
 ghost use Rattle.verdict.specs.VerdictAnswer.{buffersAfter};
-ghost use Rattle.policybook.specs.Packing.{packed, bookLength, findingsValue, historyLength};
-
-mod packing;
-
+ghost use Rattle.packing.specs.Packing.{packed, bookLength, findingsValue, historyLength, pageLength};
 use packing::pack_build;
 use packing::pack_compare;
+use packing::pack_page;
 use packing::pack_verdict;
 
 // Builds the book of a policy. The value is the book's length. The book goes to the front of the buffer; the bytes after it are unchanged, and on a refusal all of them.
@@ -45,4 +44,14 @@ pub extern "C" fn policybook_compare(first: &[u8], second: &[u8], history: &mut 
     ensures { λ r. ⌜ now (history .exit) ≡ compareBuffer (now (first .entry)) (now (second .entry)) (now (history .entry)) ⌝ }
 {
     pack_compare(compare::compare(first, second, history))
+}
+
+// Writes the page of a book: a line for each state. The value is its length. The page goes to the front of the buffer; the bytes after it are unchanged, and on a
+// refusal all of them.
+#[no_mangle]
+pub extern "C" fn policybook_page(book: &[u8], page: &mut [u8]) -> u64
+    ensures { λ r. ⌜ r ≡ packed pageLength (pageAnswer (now (book .entry)) (now (page .entry))) ⌝ }
+    ensures { λ r. ⌜ now (page .exit) ≡ pageBuffer (now (book .entry)) (now (page .entry)) ⌝ }
+{
+    pack_page(page::page(book, page))
 }

@@ -1,5 +1,5 @@
 -- `policybook_build` meets its contract: a book is small enough for its length to be packed.
-use Rattle.policybook.proofs.PackedBounds.{built-within}
+use Rattle.packing.proofs.PackedBounds.{built-within}
 use borrow.Author.Needs.{needs}
 use Rattle.policybook.proofs.policybook_build.Statement.{statement}
 use Rattle.policybook.proofs.policybook_build.Tie as tie

@@ -1,7 +1,7 @@
 -- `policybook_compare` meets its contract: what compare answers is small enough to be packed.
 use lib.ListN.{length}
-use Rattle.policybook.specs.PackedBounds.{ComparedWithin}
-use Rattle.policybook.proofs.PackedBounds.{compared-within}
+use Rattle.packing.specs.PackedBounds.{ComparedWithin}
+use Rattle.packing.proofs.PackedBounds.{compared-within}
 use borrow.Author.Needs.{needs}
 use Rattle.policybook.proofs.policybook_compare.Statement.{statement}
 use Rattle.policybook.proofs.policybook_compare.Tie as tie

@@ -1,7 +1,7 @@
 -- `pack_verdict` meets its contract.
 use borrow.Author.Needs.{needs}
-use Rattle.policybook.proofs.packing.pack_verdict.Statement.{statement}
-use Rattle.policybook.proofs.packing.pack_verdict.Tie as tie
+use Rattle.packing.proofs.pack_verdict.Statement.{statement}
+use Rattle.packing.proofs.pack_verdict.Tie as tie
 
 enum-known-judged : tie.Need-enum-known-judged
 enum-known-judged c = search needs

@@ -4,8 +4,8 @@ use native.Mathlib.Omega.{arith}
 use lib.ListN.{length}
 use lib.Seq.{length-take-le}
 use borrow.Author.Needs.{needs}
-use Rattle.policybook.proofs.packing.pack_compare.Statement.{statement}
-use Rattle.policybook.proofs.packing.pack_compare.Tie as tie
+use Rattle.packing.proofs.pack_compare.Statement.{statement}
+use Rattle.packing.proofs.pack_compare.Tie as tie
 
 enum-known-compared : tie.Need-enum-known-compared
 enum-known-compared c = search needs

@@ -2,8 +2,8 @@
 use Prim.Native.Nat.{_≤_}
 use native.Mathlib.Omega.{arith}
 use borrow.Author.Needs.{needs}
-use Rattle.policybook.proofs.packing.pack_build.Statement.{statement}
-use Rattle.policybook.proofs.packing.pack_build.Tie as tie
+use Rattle.packing.proofs.pack_build.Statement.{statement}
+use Rattle.packing.proofs.pack_build.Tie as tie
 
 enum-known-built : tie.Need-enum-known-built
 enum-known-built c = search needs

@@ -12,9 +12,11 @@ use Rattle.definitions.specs.Refusal.{bookRefusal}
 use Rattle.definitions.specs.Build.{bookOf, buildRefusal, buildAnswer}
 use Rattle.definitions.specs.Verdict.{Found, conflict, missing, blocked, findings, verdictRefusal, verdictAnswer}
 use Rattle.definitions.specs.Compare.{comparison, compareRefusal, compareAnswer}
-use Rattle.policybook.specs.Packing.{packed, bookLength, historyLength, blockedValue, foundValue, findingsValue}
+use Rattle.definitions.specs.Book.{states}
+use Rattle.definitions.specs.Page.{pageRefusal, pageAnswer}
+use Rattle.packing.specs.Packing.{packed, bookLength, pageLength, historyLength, blockedValue, foundValue, findingsValue}
 use Rattle.verdict.proofs.SmallFindings.{SmallFound, findings-small}
-use Rattle.policybook.proofs.RefusalBounds.{build-refusal-small, verdict-refusal-small, compare-refusal-small}
+use Rattle.packing.proofs.RefusalBounds.{build-refusal-small, verdict-refusal-small, page-refusal-small, compare-refusal-small}
 
 -- ---- the refusal and the value
 pub record Tells (refusal value told : ℕ) : Type 0 where
@@ -33,6 +35,10 @@ build-told p buffer = tells (buildRefusal p buffer) bookLength (length (bookOf p
 pub verdict-told : (b x y z : List ℕ) → Tells (verdictRefusal b x y z) (findingsValue (findings b)) (packed findingsValue (verdictAnswer b x y z))
 unfolding verdictAnswer
 verdict-told b x y z = tells (verdictRefusal b x y z) findingsValue (findings b) (verdict-refusal-small b x y z)
+
+pub page-told : (b buffer : List ℕ) → Tells (pageRefusal b buffer) (states b * 73) (packed pageLength (pageAnswer b buffer))
+unfolding pageAnswer
+page-told b buffer = tells (pageRefusal b buffer) pageLength (states b * 73) (page-refusal-small b buffer)
 
 pub compare-told : (b d buffer : List ℕ) → Tells (compareRefusal b d buffer) (historyLength (comparison b d)) (packed historyLength (compareAnswer b d buffer))
 unfolding compareAnswer

@@ -15,6 +15,10 @@ packed value (given a) = 256 * value a
 abbrev pub bookLength : ℕ → ℕ
 bookLength n = n
 
+-- the value of page: how many bytes were written
+abbrev pub pageLength : ℕ → ℕ
+pageLength n = n
+
 -- the value of compare: the length of the history, 0 for same
 abbrev pub historyLength : Option History → ℕ
 historyLength found = length (historyBytes found)

@@ -1,8 +1,8 @@
 -- `findings_value` meets its contract.
 use native.Mathlib.Omega.{arith}
 use borrow.Author.Needs.{needs}
-use Rattle.policybook.proofs.packing.findings_value.Statement.{statement}
-use Rattle.policybook.proofs.packing.findings_value.Tie as tie
+use Rattle.packing.proofs.findings_value.Statement.{statement}
+use Rattle.packing.proofs.findings_value.Tie as tie
 
 finding-value-requires : tie.Need-finding-value-requires
 finding-value-requires c κs = search needs

@@ -4,11 +4,18 @@ use Rattle.build.specs.declared.Built.{Built}
 use Rattle.build.specs.declared.Built.the-variants as Built
 use Rattle.compare.specs.declared.Compared.{Compared}
 use Rattle.compare.specs.declared.Compared.the-variants as Compared
+use Rattle.page.specs.declared.Paged.{Paged}
+use Rattle.page.specs.declared.Paged.the-variants as Paged
 
 -- a book of at most so many bytes
 abbrev pub BuiltWithin : ℕ → Built → Type 0
 BuiltWithin most (Built.Refused number) = Unit
 BuiltWithin most (Built.Written n) = n ≤ most
+
+-- a page of at most so many bytes
+abbrev pub PagedWithin : ℕ → Paged → Type 0
+PagedWithin most (Paged.Refused number) = Unit
+PagedWithin most (Paged.Written n) = n ≤ most
 
 -- a history of at most so many codes
 abbrev pub ComparedWithin : ℕ → Compared → Type 0

@@ -4,13 +4,15 @@ ghost use mathlib.Core.List.{List};
 ghost use Prim.Native.Nat.{ℕ, _*_, _^_, _<_};
 ghost use lib.ListN.{length};
 ghost use Rattle.build.specs.BuiltAnswer.{builtAnswer};
+ghost use Rattle.page.specs.PageAnswer.{pagedAnswer};
 ghost use Rattle.verdict.specs.VerdictAnswer.{foundOf, blockedOf, judgedAnswer};
 ghost use Rattle.verdict.specs.AnswerBounds.{BlockedWithin, FindingWithin, FindingsWithin, JudgedWithin};
 ghost use Rattle.compare.specs.ComparedAnswer.{comparedAnswer};
-ghost use Rattle.policybook.specs.Packing.{packed, bookLength, blockedValue, foundValue, findingsValue, historyLength};
-ghost use Rattle.policybook.specs.PackedBounds.{BuiltWithin, ComparedWithin};
+ghost use Rattle.packing.specs.Packing.{packed, bookLength, pageLength, blockedValue, foundValue, findingsValue, historyLength};
+ghost use Rattle.packing.specs.PackedBounds.{BuiltWithin, PagedWithin, ComparedWithin};
 use build::Built;
 use compare::Compared;
+use page::Paged;
 use verdict::Blocked;
 use verdict::Finding;
 use verdict::Findings;
@@ -24,6 +26,17 @@ pub fn pack_build(built: Built) -> u64
     match built {
         Built::Refused(number) => number as u64,
         Built::Written(length) => 256 * (length as u64),
+    }
+}
+
+// The number for what writing a page returns.
+pub fn pack_page(paged: Paged) -> u64
+    requires { ⌜ PagedWithin 9271 paged ⌝ }
+    ensures { λ r. ⌜ r ≡ packed pageLength (pagedAnswer paged) ⌝ }
+{
+    match paged {
+        Paged::Refused(number) => number as u64,
+        Paged::Written(length) => 256 * (length as u64),
     }
 }
 

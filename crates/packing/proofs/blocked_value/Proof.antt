@@ -4,8 +4,8 @@ use native.Mathlib.Omega.{arith}
 use lib.ListN.{length}
 use lib.Seq.{length-take-le}
 use borrow.Author.Needs.{needs}
-use Rattle.policybook.proofs.packing.blocked_value.Statement.{statement}
-use Rattle.policybook.proofs.packing.blocked_value.Tie as tie
+use Rattle.packing.proofs.blocked_value.Statement.{statement}
+use Rattle.packing.proofs.blocked_value.Tie as tie
 
 enum-told : tie.Need-enum-told
 enum-told c = search needs

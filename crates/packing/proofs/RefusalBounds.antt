@@ -14,6 +14,7 @@ use Rattle.definitions.specs.Refusal.{fileChecks, fileRefusal, situations, row1
 use Rattle.definitions.specs.Build.{bookOf, buildRefusal}
 use Rattle.definitions.specs.Verdict.{verdictRefusal}
 use Rattle.definitions.specs.Compare.{compareRefusal}
+use Rattle.definitions.specs.Page.{pageRefusal}
 use Rattle.definitions.proofs.CheckLists.{refusal-most}
 use Rattle.definitions.proofs.Accepted.{book-passed}
 use Rattle.definitions.proofs.Demands.{demand2}
@@ -54,6 +55,10 @@ pub verdict-refusal-small : (b x y z : List ℕ) → verdictRefusal b x y z ≤ 
 unfolding verdictRefusal
 verdict-refusal-small b x y z =
     judge-small 1 (leb 128 (length x) && leb 128 (length y) && leb 128 (length z)) (bookRefusal b) (omega arith) (book-refusal-small b)
+
+pub page-refusal-small : (b buffer : List ℕ) → pageRefusal b buffer ≤ 15
+unfolding pageRefusal
+page-refusal-small b buffer = judge-small 1 (leb 9271 (length buffer)) (bookRefusal b) (omega arith) (book-refusal-small b)
 
 pub compare-refusal-small : (b d buffer : List ℕ) → compareRefusal b d buffer ≤ 15
 unfolding compareRefusal row15
