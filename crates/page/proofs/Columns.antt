@@ -1,21 +1,28 @@
 -- The columns of a line, put one after another.
 use mathlib.Core.Path.{_≡_, refl, sym, ap, _∙_}
 use mathlib.Core.List.{List, [], _∷_, _++_, append-assoc, append-nil}
-use Prim.Native.Nat.{ℕ, zero, suc, _+_, _-_, _/_, _≤_, _<_}
-use native.Mathlib.Nat.{add-zero, add-suc}
+use Prim.Native.Nat.{ℕ, zero, suc, _+_, _-_, _*_, _/_, _≤_, _<_}
+use native.Mathlib.Nat.{add-zero, add-suc, add-assoc}
 use native.Mathlib.Numerals.{add-one}
 use native.Mathlib.Omega.{arith}
-use lib.ListN.{length, set, replicate, replicate-append-replicate}
+use lib.ListN.{length, getD, drop, set, replicate, replicate-append-replicate}
+use lib.Seq.{getD-drop}
 use borrow.Author.Tests.{lt-ltb, le-ltb}
 use Rattle.automaton.specs.Below.{listBelow}
-use Rattle.definitions.specs.Book.{requests}
+use Rattle.automaton.specs.Machine.{step}
+use Rattle.automaton.proofs.Machine.{is-state}
+use Rattle.automaton.proofs.Congruence.{list-below-same}
+use Rattle.definitions.specs.Bytes.{byte}
+use Rattle.definitions.specs.Codes.{acceptCode, rejectCode}
+use Rattle.definitions.specs.Book.{events, requests, width, entry, bookMachine}
+use Rattle.definitions.proofs.BookSteps.{step-is-entry}
 use Rattle.definitions.specs.Decimal.{digit, decimal}
 use Rattle.definitions.specs.Shelf.{blank, newline}
 use Rattle.definitions.specs.Page.{threeColumns, dashes, letter, requestColumn}
 use Rattle.definitions.specs.Telling.{telling}
 use Rattle.text.specs.Put.{Put}
 use Rattle.text.proofs.Puts.{then, byte-put}
-use Rattle.page.specs.Depths.{depthColumns, lineOf}
+use Rattle.page.specs.Depths.{depthColumns, letterBy, letterIn, lineOf}
 
 -- ---- a number after as many blanks as it leaves
 module _ {before middle after : List ℕ} {at next end : ℕ} (n : ℕ) where
@@ -38,6 +45,20 @@ depth-none depth e = rw e
 pub depth-some : (depth : ℕ) → (depth ≡ 0 → ⊥) → depthColumns depth ≡ threeColumns (depth - 1)
 depth-some zero n = absurd (n refl)
 depth-some (suc k) n = let e : suc k - 1 ≡ k = omega arith in rw e
+
+-- ---- a letter by its two entries
+module _ (accept reject : ℕ) where
+  pub letter-none : accept ≡ 0 → reject ≡ 0 → letterBy accept reject ≡ 46
+  letter-none a r = rw (a, r)
+
+  pub letter-reject : accept ≡ 0 → (reject ≡ 0 → ⊥) → letterBy accept reject ≡ 82
+  letter-reject a r = rw (a, is-state reject (omega arith))
+
+  pub letter-accept : (accept ≡ 0 → ⊥) → reject ≡ 0 → letterBy accept reject ≡ 65
+  letter-accept a r = rw (is-state accept (omega arith), r)
+
+  pub letter-both : (accept ≡ 0 → ⊥) → (reject ≡ 0 → ⊥) → letterBy accept reject ≡ 66
+  letter-both a r = rw (is-state accept (omega arith), is-state reject (omega arith))
 
 -- ---- one column more
 module _ (f : ℕ → ℕ) where
@@ -68,24 +89,37 @@ blank-turn before at {out} i p =
 
 -- ---- the columns of the requests
 module _ (b : List ℕ) (s : ℕ) where
-  pub letter-column : (r x : ℕ) → r < requests b → x ≡ letter (telling b s r) → x ≡ requestColumn b s r
-  letter-column r x l e = e ∙ rw (lt-ltb r (requests b) l)
+  request-entry : (k : ℕ) → byte (drop (12 + (s - 1) * width b + events b) b) k ≡ entry b s (events b + k)
+  request-entry k =
+      getD-drop (12 + (s - 1) * width b + events b) b k 0 ∙ ap (λ (n : ℕ). getD b n 0) (add-assoc (12 + (s - 1) * width b) (events b) k)
+      ∙ sym (getD-drop (12 + (s - 1) * width b) b (events b + k) 0)
+
+  -- the letters of a row are those of its state
+  pub letter-column : (row : List ℕ) → row ≡ drop (12 + (s - 1) * width b + events b) b → 1 ≤ s → (r : ℕ) → r < requests b → letterIn row r ≡ requestColumn b s r
+  unfolding telling
+  letter-column row e some-state r l =
+      let next : events b + (2 * r + 1) ≡ rejectCode (events b) r = omega arith in
+      let accept : byte row (2 * r) ≡ step (bookMachine b) s (acceptCode (events b) r) =
+      ap (λ (l : List ℕ). byte l (2 * r)) e ∙ request-entry (2 * r) ∙ sym (step-is-entry b s (acceptCode (events b) r) some-state (omega arith)) in
+      let reject : byte row (2 * r + 1) ≡ step (bookMachine b) s (rejectCode (events b) r) =
+      ap (λ (l : List ℕ). byte l (2 * r + 1)) e ∙ request-entry (2 * r + 1) ∙ ap (entry b s) next
+      ∙ sym (step-is-entry b s (rejectCode (events b) r) some-state (omega arith)) in
+      rw (lt-ltb r (requests b) l, accept, reject)
 
   -- letters, and blanks beyond Q
-  pub columns-all : (q : ℕ) → q ≡ requests b → q ≤ 64 → listBelow q (requestColumn b s) ++ replicate (64 - q) blank ≡ listBelow 64 (requestColumn b s)
-  columns-all q e l =
+  pub columns-all : (row : List ℕ) (w e : ℕ) → row ≡ drop (12 + (s - 1) * w + e) b → w ≡ width b → e ≡ events b → 1 ≤ s → (q : ℕ) → q ≡ requests b → q ≤ 64
+      → listBelow q (letterIn row) ++ replicate (64 - q) blank ≡ listBelow 64 (requestColumn b s)
+  columns-all row w e from ew ee some-state q count l =
       let whole : q + (64 - q) ≡ 64 = omega arith in
-      columns-blank (requestColumn b s) q (64 - q) (λ r m. rw (le-ltb r (requests b) (omega arith))) ∙ ap (λ (n : ℕ). listBelow n (requestColumn b s)) whole
+      let part : row ≡ drop (12 + (s - 1) * width b + events b) b = from ∙ rw (ew, ee) in
+      ap (λ (x : List ℕ). x ++ replicate (64 - q) blank)
+      (list-below-same (letterIn row) (requestColumn b s) q (λ r m. letter-column row part some-state r (omega arith)))
+      ∙ columns-blank (requestColumn b s) q (64 - q) (λ r m. rw (le-ltb r (requests b) (omega arith))) ∙ ap (λ (n : ℕ). listBelow n (requestColumn b s)) whole
 
-  -- the parts of a line, put one after another
-  pub line-parts : (depth q : ℕ) → q ≡ requests b → q ≤ 64
-      → (threeColumns s ++ (blank ∷ (depthColumns depth ++ (blank ∷ [])))) ++ (listBelow q (requestColumn b s) ++ (replicate (64 - q) blank ++ (newline ∷ [])))
-      ≡ lineOf b s depth
-  line-parts depth q e l =
-      let letters = listBelow q (requestColumn b s) in
-      let blanks = replicate (64 - q) blank in
-      let rest = letters ++ (blanks ++ (newline ∷ [])) in
-      append-assoc (threeColumns s) (blank ∷ (depthColumns depth ++ (blank ∷ []))) rest
-      ∙ ap (λ (x : List ℕ). threeColumns s ++ (blank ∷ x)) (append-assoc (depthColumns depth) (blank ∷ []) rest)
-      ∙ ap (λ (x : List ℕ). threeColumns s ++ (blank ∷ (depthColumns depth ++ (blank ∷ x))))
-      (sym (append-assoc letters blanks (newline ∷ [])) ∙ ap (λ (x : List ℕ). x ++ (newline ∷ [])) (columns-all q e l))
+-- the parts of a line, put one after another
+pub line-parts : (b : List ℕ) (s depth : ℕ)
+    → (threeColumns s ++ (blank ∷ (depthColumns depth ++ (blank ∷ [])))) ++ (listBelow 64 (requestColumn b s) ++ (newline ∷ [])) ≡ lineOf b s depth
+line-parts b s depth =
+    let rest = listBelow 64 (requestColumn b s) ++ (newline ∷ []) in
+    append-assoc (threeColumns s) (blank ∷ (depthColumns depth ++ (blank ∷ []))) rest
+    ∙ ap (λ (x : List ℕ). threeColumns s ++ (blank ∷ x)) (append-assoc (depthColumns depth) (blank ∷ []) rest)

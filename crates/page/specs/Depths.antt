@@ -2,15 +2,17 @@
 use mathlib.Core.Path.{_≡_}
 use mathlib.Core.List.{List, [], _∷_, _++_}
 use mathlib.Core.Option.{Option, none, some}
-use Prim.Native.Nat.{ℕ, zero, suc, _*_, _≤_, _<_}
+use Prim.Native.Nat.{ℕ, zero, suc, _+_, _*_, _≤_, _<_}
 use lib.Dec.{eqb}
 use lib.ListN.{length}
 use Rattle.automaton.specs.Below.{listBelow}
 use Rattle.automaton.specs.Explore.{Reached, firstThat}
+use Rattle.automaton.specs.Machine.{isState}
 use Rattle.automaton.specs.Parents.{EarlierParents}
 use Rattle.definitions.specs.Bytes.{byte}
 use Rattle.definitions.specs.Book.{states}
-use Rattle.definitions.specs.Page.{threeColumns, dashes, requestColumn}
+use Rattle.definitions.specs.Page.{threeColumns, dashes, letter, requestColumn}
+use Rattle.definitions.specs.Telling.{toTelling}
 use Rattle.definitions.specs.Shelf.{blank, newline}
 use Rattle.definitions.specs.Verdict.{statesReached}
 use Rattle.search.specs.Trail.{firstAt, historyAt}
@@ -44,6 +46,13 @@ DepthsOf b depths = (s : ℕ) → 1 ≤ s → s ≤ states b → byte depths s �
 abbrev pub depthColumns : ℕ → List ℕ
 depthColumns zero = dashes
 depthColumns (suc k) = threeColumns k
+
+-- the letter of a request by its two entries, and that of request r where a row's entries of requests begin
+abbrev pub letterBy : ℕ → ℕ → ℕ
+letterBy accept reject = letter (toTelling (isState accept) (isState reject))
+
+abbrev pub letterIn : List ℕ → ℕ → ℕ
+letterIn row r = letterBy (byte row (2 * r)) (byte row (2 * r + 1))
 
 -- the line of state s by its depth
 abbrev pub lineOf : List ℕ → ℕ → ℕ → List ℕ

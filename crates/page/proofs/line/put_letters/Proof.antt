@@ -1,30 +1,40 @@
 -- `put_letters` meets its contract: the letters of the first r requests are put.
-use mathlib.Core.Path.{_≡_, refl, ap, _∙_}
+use mathlib.Core.Path.{_≡_, refl}
 use Prim.Native.Nat.{_+_, _-_, _≤_}
 use native.Mathlib.Omega.{arith}
 use lib.ListN.{length, length-set}
 use Rattle.automaton.specs.Below.{listBelow}
-use Rattle.definitions.specs.Page.{letter, requestColumn}
 use Rattle.text.specs.Put.{Put}
-use Rattle.page.proofs.Columns.{column-turn, letter-column}
+use Rattle.page.specs.Depths.{letterIn}
+use Rattle.page.proofs.Columns.{column-turn}
 use borrow.Author.Needs.{needs}
 use Rattle.page.proofs.line.put_letters.Statement.{statement}
 use Rattle.page.proofs.line.put_letters.Tie as tie
 
 abbrev Inv-loop : tie.InvT-loop
-Inv-loop line₀ at book width requests state r₀ line r =
-    (r ≤ requests) × (length line ≡ length line₀) × Put line₀ at (listBelow r (requestColumn book state)) line (at + r)
+Inv-loop line₀ at row requests r₀ line r =
+    (r ≤ requests) × (length line ≡ length line₀) × Put line₀ at (listBelow r (letterIn row)) line (at + r)
 
 abbrev μ-loop : tie.MeasureT-loop
-μ-loop line₀ at book width requests state r₀ line r = requests - r
+μ-loop line₀ at row requests r₀ line r = requests - r
 
 loop-holds : tie.Need-loop-holds Inv-loop μ-loop
 loop-holds c = (omega arith, refl, record { stored = refl; ends = refl })
 
-telling-at-requires : tie.Need-telling-at-requires Inv-loop μ-loop
-telling-at-requires c κs =
-    let p = c .before .before .before .before .pre in
-    ((p .0 .0 .layout, p .0 .1), (p .1 .0, p .1 .1, omega (arith, p .0 .2, c .loop-test .taken)))
+mul-letter : tie.Need-mul-letter Inv-loop μ-loop
+mul-letter c = search needs
+
+shared-slice-read-letter : tie.Need-shared-slice-read-letter Inv-loop μ-loop
+shared-slice-read-letter c = search needs
+
+mul-letter-2 : tie.Need-mul-letter-2 Inv-loop μ-loop
+mul-letter-2 c = search needs
+
+add-letter : tie.Need-add-letter Inv-loop μ-loop
+add-letter c = search needs
+
+shared-slice-read-letter-2 : tie.Need-shared-slice-read-letter-2 Inv-loop μ-loop
+shared-slice-read-letter-2 c = search needs
 
 letter-requires : tie.Need-letter-requires Inv-loop μ-loop
 letter-requires c κs = search needs
@@ -43,11 +53,8 @@ loop-less c = search needs
 
 loop-again : tie.Need-loop-again Inv-loop μ-loop
 loop-again c =
-    let l = c .before .before .before .loop in
-    let s = c .before .before .before .before .before .before in
-    let told = c .letter .ensures ∙ ap letter (c .before .telling-at .ensures) in
-    let column = letter-column (s .args .book .now) (s .args .state) (l .r) (c .letter .result) (omega (arith, s .pre .0 .2, c .before .before .loop-test .taken)) told in
-    (omega arith, simp length-set (omega arith), column-turn _ _ _ (l .r) _ column (l .inv .2))
+    let l = c .before .before .before .before .loop in
+    (omega arith, simp length-set (omega arith), column-turn _ _ _ (l .r) _ (c .letter .ensures) (l .inv .2))
 
 add-result : tie.Need-add-result Inv-loop μ-loop
 add-result c = search needs
@@ -67,7 +74,11 @@ put-letters-spec =
     Inv-loop
     μ-loop
     loop-holds
-    telling-at-requires
+    mul-letter
+    shared-slice-read-letter
+    mul-letter-2
+    add-letter
+    shared-slice-read-letter-2
     letter-requires
     add-line
     slice-write-line
