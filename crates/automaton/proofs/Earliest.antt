@@ -16,18 +16,18 @@ use Rattle.automaton.specs.Explore.{Reached, numberIn, add, visit, unrea
 use Rattle.automaton.proofs.Order.{tri, earlier-trans, earlier-append, earlier-code, not-later-trans, not-later-append}
 use Rattle.automaton.proofs.Machine.{step-within, possible-state}
 use Rattle.automaton.proofs.Below.{below-suc}
-use Rattle.automaton.proofs.Explore.{stateAt, historyAt, number-hit, Front, front-at, front-length, at-end, add-keeps, add-front, visit-front, reached-ends, Ended, Sound, reached-sound, reached-leads, reached-short}
+use Rattle.automaton.proofs.Explore.{stateAt, reachedHistory, number-hit, Front, front-at, front-length, at-end, add-keeps, add-front, visit-front, reached-ends, Ended, Sound, reached-sound, reached-leads, reached-short}
 
 -- s is found, by a history that is not later than x
 abbrev pub FoundBy : List Reached → ℕ → History → Type 0
-FoundBy found s x = (k : ℕ) × (k < length found) × (stateAt found k ≡ s) × NotLater (historyAt found k) x
+FoundBy found s x = (k : ℕ) × (k < length found) × (stateAt found k ≡ s) × NotLater (reachedHistory found k) x
 
 abbrev Sorted : List Reached → Type 0
-Sorted found = (k : ℕ) → k < length found → (j : ℕ) → j < k → Earlier (historyAt found j) (historyAt found k)
+Sorted found = (k : ℕ) → k < length found → (j : ℕ) → j < k → Earlier (reachedHistory found j) (reachedHistory found k)
 
 -- all are found by histories earlier than x
 abbrev Ahead : List Reached → History → Type 0
-Ahead found x = (k : ℕ) → k < length found → Earlier (historyAt found k) x
+Ahead found x = (k : ℕ) → k < length found → Earlier (reachedHistory found k) x
 
 found-by-front : {found more : List Reached} → Front found more → (s : ℕ) (x : History) → FoundBy found s x → FoundBy more s x
 found-by-front {found} {more} f s x r =
@@ -43,13 +43,13 @@ module _ (found : List Reached) (x : History) (ahead : Ahead found x) where
       t = record { state = s; history = x }
 
       P : ℕ → Reached → Type 0
-      P k u = (j : ℕ) → j < k → Earlier (historyAt (found ++ (t ∷ [])) j) (u .history)
+      P k u = (j : ℕ) → j < k → Earlier (reachedHistory (found ++ (t ∷ [])) j) (u .history)
 
-      before : (j : ℕ) → j < length found → (y : History) → Earlier (historyAt found j) y → Earlier (historyAt (found ++ (t ∷ [])) j) y
+      before : (j : ℕ) → j < length found → (y : History) → Earlier (reachedHistory found j) y → Earlier (reachedHistory (found ++ (t ∷ [])) j) y
       before j l y e = subst (λ (u : Reached). Earlier (u .history) y) (sym (List·getD-append found (t ∷ []) unreached j l)) e
 
       old : (k : ℕ) → k < length found → P k (getD found k unreached)
-      old k l j b = before j (omega arith) (historyAt found k) (sorted k l j b)
+      old k l j b = before j (omega arith) (reachedHistory found k) (sorted k l j b)
 
       new : P (length found) t
       new j b = before j b x (ahead j b)
@@ -58,7 +58,7 @@ module _ (found : List Reached) (x : History) (ahead : Ahead found x) where
   ahead-add s y e = add-keeps (λ l. Ahead l y) found x s old (λ _ _. at-end found (record { state = s; history = x }) (λ k t. Earlier (t .history) y) old e)
     where
       old : Ahead found y
-      old k l = earlier-trans (historyAt found k) x y (ahead k l) e
+      old k l = earlier-trans (reachedHistory found k) x y (ahead k l) e
 
   -- s is there now, or was there before by an earlier history
   found-add : (s : ℕ) → isState s ≡ true → FoundBy (add found s x) s x
@@ -114,7 +114,7 @@ Tried m found t = (c : ℕ) → isState (step m (t .state) c) ≡ true → Found
 -- ---- the first i states are visited
 record Visited (m : Machine) (i : ℕ) (found : List Reached) : Type 0 where
   sorted : Sorted found
-  ahead : i < length found → Ahead found (historyAt found i ++ (0 ∷ []))
+  ahead : i < length found → Ahead found (reachedHistory found i ++ (0 ∷ []))
   tried : (j : ℕ) → j < i → j < length found → Tried m found (getD found j unreached)
 
 module _ (m : Machine) where
@@ -136,18 +136,18 @@ module _ (m : Machine) where
       sorted : Sorted more
       sorted = visit-sorted m t found (v .sorted) (v .ahead l) (m .width)
 
-      ahead : suc i < length more → Ahead more (historyAt more (suc i) ++ (0 ∷ []))
+      ahead : suc i < length more → Ahead more (reachedHistory more (suc i) ++ (0 ∷ []))
       ahead b k lk =
-          earlier-trans (historyAt more k) (t .history ++ (m .width ∷ [])) (historyAt more (suc i) ++ (0 ∷ []))
+          earlier-trans (reachedHistory more k) (t .history ++ (m .width ∷ [])) (reachedHistory more (suc i) ++ (0 ∷ []))
           (visit-ahead m t found (v .sorted) (v .ahead l) (m .width) k lk)
-          (earlier-append (t .history) (historyAt more (suc i)) (m .width ∷ []) (0 ∷ []) refl
-          (subst (λ (u : Reached). Earlier (u .history) (historyAt more (suc i))) same (sorted (suc i) b i (omega arith))))
+          (earlier-append (t .history) (reachedHistory more (suc i)) (m .width ∷ []) (0 ∷ []) refl
+          (subst (λ (u : Reached). Earlier (u .history) (reachedHistory more (suc i))) same (sorted (suc i) b i (omega arith))))
 
       tried : (j : ℕ) → (j < i) ⊎ (j ≡ i) → Tried m more (getD more j unreached)
       tried j (inl b) =
           let lj : j < length found = omega arith in
           subst (Tried m more) (sym (front-at front j lj))
-          (λ c p. found-by-front front (step m (stateAt found j) c) (historyAt found j ++ (c ∷ [])) (v .tried j b lj c p))
+          (λ c p. found-by-front front (step m (stateAt found j) c) (reachedHistory found j ++ (c ∷ [])) (v .tried j b lj c p))
       tried j (inr e) =
           subst (λ (k : ℕ). Tried m more (getD more k unreached)) (sym e) (subst (Tried m more) (sym same)
           (λ c p. visit-found m t found (v .sorted) (v .ahead l) (m .width) c (step-within m (t .state) c p) p))
@@ -166,10 +166,10 @@ module _ (m : Machine) where
 -- each is a state, with a history that leads to it and that has no more codes than there are states before it; the histories are in order; and every possible
 -- history leads to a state found, by a history that is not later
 pub record Explored (m : Machine) (found : List Reached) : Type 0 where
-  pub leads : (k : ℕ) → k < length found → after m (m .start) (historyAt found k) ≡ stateAt found k
+  pub leads : (k : ℕ) → k < length found → after m (m .start) (reachedHistory found k) ≡ stateAt found k
   pub states : (k : ℕ) → k < length found → isState (stateAt found k) ≡ true
-  pub short : (k : ℕ) → k < length found → length (historyAt found k) ≤ k
-  pub inOrder : (j k : ℕ) → j < k → k < length found → Earlier (historyAt found j) (historyAt found k)
+  pub short : (k : ℕ) → k < length found → length (reachedHistory found k) ≤ k
+  pub inOrder : (j k : ℕ) → j < k → k < length found → Earlier (reachedHistory found j) (reachedHistory found k)
   pub covers : (g : History) → possible m g ≡ true → FoundBy found (after m (m .start) g) g
 
 module _ (m : Machine) (most : ℕ) (begins : isState (m .start) ≡ true) where
@@ -179,24 +179,24 @@ module _ (m : Machine) (most : ℕ) (begins : isState (m .start) ≡ true) where
   sound : Sound m found
   sound = reached-sound m most begins
 
-  pub reached-sorted : (j k : ℕ) → j < k → k < length found → Earlier (historyAt found j) (historyAt found k)
+  pub reached-sorted : (j k : ℕ) → j < k → k < length found → Earlier (reachedHistory found j) (reachedHistory found k)
   reached-sorted j k b l = visited-reached m most .kept .sorted k l j b
 
   module _ (enough : length found ≤ most) where
     -- the steps do not leave the states found
     pub reached-closed : (k c : ℕ) → k < length found → isState (step m (stateAt found k) c) ≡ true
-        → FoundBy found (step m (stateAt found k) c) (historyAt found k ++ (c ∷ []))
+        → FoundBy found (step m (stateAt found k) c) (reachedHistory found k ++ (c ∷ []))
     reached-closed k c l p = let r = visited-reached m most in r .kept .tried k (omega (arith, r .all enough)) l c p
 
     found-step : (s : ℕ) (x : History) (c : ℕ) → FoundBy found s x → isState (step m s c) ≡ true → FoundBy found (step m s c) (x ++ (c ∷ []))
     found-step s x c r p =
         let k = r .0 in
         let next = reached-closed k c (r .1) (subst (λ (n : ℕ). isState (step m n c) ≡ true) (sym (r .2)) p) in
-        let sooner = not-later-append (historyAt found k) x (c ∷ []) (r .3) in (
+        let sooner = not-later-append (reachedHistory found k) x (c ∷ []) (r .3) in (
           next .0,
           next .1,
           next .2 ∙ ap (λ (n : ℕ). step m n c) (r .2),
-          not-later-trans (historyAt found (next .0)) (historyAt found k ++ (c ∷ [])) (x ++ (c ∷ [])) (next .3) sooner,
+          not-later-trans (reachedHistory found (next .0)) (reachedHistory found k ++ (c ∷ [])) (x ++ (c ∷ [])) (next .3) sooner,
         )
 
     found-after : (s : ℕ) (x g : History) → FoundBy found s x → isState (after m s g) ≡ true → FoundBy found (after m s g) (x ++ g)
@@ -277,19 +277,19 @@ module _ (test : ℕ → Bool) where
         l : k < length found
         l = r .1
 
-        passes : Passes m test (historyAt found k)
+        passes : Passes m test (reachedHistory found k)
         passes = (ap isState (E .leads k l) ∙ E .states k l, ap test (E .leads k l) ∙ r .3)
 
-        earliest : (g : History) → Passes m test g → NotLater (historyAt found k) g
+        earliest : (g : History) → Passes m test g → NotLater (reachedHistory found k) g
         earliest g p = go (E .covers g (p .0))
           where
-            go : FoundBy found (after m (m .start) g) g → NotLater (historyAt found k) g
+            go : FoundBy found (after m (m .start) g) g → NotLater (reachedHistory found k) g
             go (j, lj, at, sooner) = cases (tri j k)
               where
-                cases : (j < k) ⊎ ((j ≡ k) ⊎ (k < j)) → NotLater (historyAt found k) g
+                cases : (j < k) ⊎ ((j ≡ k) ⊎ (k < j)) → NotLater (reachedHistory found k) g
                 cases (inl b) = absurd (false≢true (sym (r .4 j b) ∙ ap test at ∙ p .1))
-                cases (inr (inl same)) = subst (λ (i : ℕ). NotLater (historyAt found i) g) same sooner
-                cases (inr (inr b)) = not-later-trans (historyAt found k) (historyAt found j) g (inl (E .inOrder k j b lj)) sooner
+                cases (inr (inl same)) = subst (λ (i : ℕ). NotLater (reachedHistory found i) g) same sooner
+                cases (inr (inr b)) = not-later-trans (reachedHistory found k) (reachedHistory found j) g (inl (E .inOrder k j b lj)) sooner
 
     -- where there is none, no possible history passes
     pub first-none : firstThat test found ≡ none → (h : History) → Passes m test h → ⊥

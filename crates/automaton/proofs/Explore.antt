@@ -20,8 +20,8 @@ use Rattle.automaton.proofs.Below.{below-suc, place-hit, place-append, 
 abbrev pub stateAt : List Reached → ℕ → ℕ
 stateAt found k = getD found k unreached .state
 
-abbrev pub historyAt : List Reached → ℕ → History
-historyAt found k = getD found k unreached .history
+abbrev pub reachedHistory : List Reached → ℕ → History
+reachedHistory found k = getD found k unreached .history
 
 -- ---- numbers
 pub number-hit : (found : List Reached) (s k : ℕ) → numberIn found s ≡ suc k → (k < length found) × (s ≡ stateAt found k)
@@ -205,18 +205,18 @@ module _ (m : Machine) (found : List Reached) (sound : Sound m found) where
       subst (P (suc k)) (sym (r .is))
       (goes (r .parent) (suc k) (r .code) (r .before) l (sound-induct P start goes fuel (r .parent) (omega (arith, r .before)) (omega (arith, r .before))))
 
-  sound-leads : (k : ℕ) → k < length found → after m (m .start) (historyAt found k) ≡ stateAt found k
+  sound-leads : (k : ℕ) → k < length found → after m (m .start) (reachedHistory found k) ≡ stateAt found k
   sound-leads k l = sound-induct (λ k t. after m (m .start) (t .history) ≡ t .state) refl goes (suc k) k (omega arith) l
     where
-      goes : (j k c : ℕ) → j < k → k < length found → after m (m .start) (historyAt found j) ≡ stateAt found j
-          → after m (m .start) (historyAt found j ++ (c ∷ [])) ≡ step m (stateAt found j) c
-      goes j k c b l e = after-append m (m .start) (historyAt found j) (c ∷ []) ∙ ap (λ (s : ℕ). step m s c) e
+      goes : (j k c : ℕ) → j < k → k < length found → after m (m .start) (reachedHistory found j) ≡ stateAt found j
+          → after m (m .start) (reachedHistory found j ++ (c ∷ [])) ≡ step m (stateAt found j) c
+      goes j k c b l e = after-append m (m .start) (reachedHistory found j) (c ∷ []) ∙ ap (λ (s : ℕ). step m s c) e
 
-  sound-length : (k : ℕ) → k < length found → length (historyAt found k) ≤ k
+  sound-length : (k : ℕ) → k < length found → length (reachedHistory found k) ≤ k
   sound-length k l = sound-induct (λ k t. length (t .history) ≤ k) (omega arith) goes (suc k) k (omega arith) l
     where
-      goes : (j k c : ℕ) → j < k → k < length found → length (historyAt found j) ≤ j → length (historyAt found j ++ (c ∷ [])) ≤ k
-      goes j k c b l e = omega (arith, length-append (historyAt found j) (c ∷ []))
+      goes : (j k c : ℕ) → j < k → k < length found → length (reachedHistory found j) ≤ j → length (reachedHistory found j ++ (c ∷ [])) ≤ k
+      goes j k c b l e = omega (arith, length-append (reachedHistory found j) (c ∷ []))
 
   sound-above : (k : ℕ) → k < length found → 1 ≤ stateAt found k
   sound-above k l = state-is (stateAt found k) (sound .states k l)
@@ -240,11 +240,11 @@ module _ (m : Machine) (most : ℕ) (begins : isState (m .start) ≡ true) where
   reached-sound = reached-ends m (λ i found. Sound m found) (λ i found l r. sound-visit m found i l r (m .width)) most (sound-start m begins) .kept
 
   -- its history leads to it
-  pub reached-leads : (k : ℕ) → k < length (reached m most) → after m (m .start) (historyAt (reached m most) k) ≡ stateAt (reached m most) k
+  pub reached-leads : (k : ℕ) → k < length (reached m most) → after m (m .start) (reachedHistory (reached m most) k) ≡ stateAt (reached m most) k
   reached-leads = sound-leads m (reached m most) reached-sound
 
   -- and has at most as many codes as there are states before it
-  pub reached-short : (k : ℕ) → k < length (reached m most) → length (historyAt (reached m most) k) ≤ k
+  pub reached-short : (k : ℕ) → k < length (reached m most) → length (reachedHistory (reached m most) k) ≤ k
   reached-short = sound-length m (reached m most) reached-sound
 
   -- where no step leads above n, at most n states are found

@@ -10,7 +10,7 @@ use lib.ListN.{length}
 use Rattle.automaton.specs.Machine.{Machine, after, isState, DistinctStates}
 use Rattle.automaton.specs.Explore.{Reached, numberIn, reached}
 use Rattle.automaton.proofs.Below.{distinct-below}
-use Rattle.automaton.proofs.Explore.{stateAt, historyAt, Sound, sound-apart, reached-sound, reached-leads}
+use Rattle.automaton.proofs.Explore.{stateAt, reachedHistory, Sound, sound-apart, reached-sound, reached-leads}
 use Rattle.automaton.proofs.Earliest.{FoundBy, reached-covers}
 
 module _ (m : Machine) (most : ℕ) (begins : isState (m .start) ≡ true) where
@@ -22,12 +22,12 @@ module _ (m : Machine) (most : ℕ) (begins : isState (m .start) ≡ true) where
 
   -- the histories by which the states were found
   distinct-found : most < length found → DistinctStates m (suc most)
-  distinct-found over = record { history = historyAt found; possibleEach = λ i l. possibleOne i (omega arith); distinct = λ i j b l. apart i j b (omega arith) }
+  distinct-found over = record { history = reachedHistory found; possibleEach = λ i l. possibleOne i (omega arith); distinct = λ i j b l. apart i j b (omega arith) }
     where
-      possibleOne : (i : ℕ) → i < length found → isState (after m (m .start) (historyAt found i)) ≡ true
+      possibleOne : (i : ℕ) → i < length found → isState (after m (m .start) (reachedHistory found i)) ≡ true
       possibleOne i l = ap isState (reached-leads m most begins i l) ∙ sound .states i l
 
-      apart : (i j : ℕ) → i < j → j < length found → after m (m .start) (historyAt found i) ≡ after m (m .start) (historyAt found j) → ⊥
+      apart : (i j : ℕ) → i < j → j < length found → after m (m .start) (reachedHistory found i) ≡ after m (m .start) (reachedHistory found j) → ⊥
       apart i j b l e =
           sound-apart m found sound i j b l (sym (reached-leads m most begins i (omega arith)) ∙ e ∙ reached-leads m most begins j l)
 

@@ -19,7 +19,7 @@ use Rattle.automaton.proofs.Numbered.{Numbered}
 use Rattle.automaton.proofs.Machine.{step-past, after-map-on}
 use Rattle.automaton.proofs.Below.{length-list-below, getD-list-below}
 use Rattle.automaton.proofs.WellFormed.{Wide, IsTable, getD-map-within, entry-beyond, step-entry, step-inside, after-inside}
-use Rattle.automaton.proofs.Explore.{stateAt, historyAt, number-hit, Sound, Follows, reached-sound}
+use Rattle.automaton.proofs.Explore.{stateAt, reachedHistory, number-hit, Sound, Follows, reached-sound}
 use Rattle.automaton.proofs.Earliest.{FoundBy, Explored, reached-explored, reached-closed}
 use Rattle.automaton.proofs.Tidy.{Tidy}
 
@@ -157,10 +157,10 @@ module _ (m : Machine) (most : ℕ) (begins : isState (m .start) ≡ true) (enou
       ∙ ap (numberIn found) (state-after 1 (sound .some) h ∙ ap (λ (s : ℕ). after m s h) start-is)
 
   -- state k + 1 of the table is first reached by the k-th history
-  pub table-earliest : (k : ℕ) → k < length found → Earliest (λ h. after M 1 h ≡ suc k) (historyAt found k)
-  table-earliest k l = (table-after (historyAt found k) ∙ ap (numberIn found) (explored .leads k l) ∙ sound .once k l, not-later)
+  pub table-earliest : (k : ℕ) → k < length found → Earliest (λ h. after M 1 h ≡ suc k) (reachedHistory found k)
+  table-earliest k l = (table-after (reachedHistory found k) ∙ ap (numberIn found) (explored .leads k l) ∙ sound .once k l, not-later)
     where
-      not-later : (h : History) → after M 1 h ≡ suc k → NotLater (historyAt found k) h
+      not-later : (h : History) → after M 1 h ≡ suc k → NotLater (reachedHistory found k) h
       not-later h e =
           let r = explored .covers h (sym (table-histories h) ∙ ap isState e) in
           let same : suc (r .0) ≡ suc k = sym (sound .once (r .0) (r .1)) ∙ ap (numberIn found) (r .2) ∙ sym (table-after h) ∙ e in
@@ -170,19 +170,19 @@ module _ (m : Machine) (most : ℕ) (begins : isState (m .start) ≡ true) (enou
   -- so its states are numbered by their earliest histories
   pub table-numbered : Numbered (after M 1) (length rows)
   table-numbered = subst (Numbered (after M 1)) (sym (table-length m found)) (record {
-    history = λ s. historyAt found (pred s);
+    history = λ s. reachedHistory found (pred s);
     earliest = earliest;
     inOrder = λ s t some b l. explored .inOrder (pred s) (pred t) (omega arith) (omega arith);
   })
     where
-      earliest : (s : ℕ) → 1 ≤ s → s ≤ length found → Earliest (λ h. after M 1 h ≡ s) (historyAt found (pred s))
+      earliest : (s : ℕ) → 1 ≤ s → s ≤ length found → Earliest (λ h. after M 1 h ≡ s) (reachedHistory found (pred s))
       earliest zero some l = absurd (omega arith)
       earliest (suc k) some l = table-earliest k l
 
   -- ---- the order
   -- an earlier history stands at an earlier place, and one state at one place
-  earlier-place : (j k : ℕ) → j < length found → Earlier (historyAt found j) (historyAt found k) → j < k
-  earlier-place j k l b = earlier-index (historyAt found) j k (λ p. explored .inOrder k j p l) b
+  earlier-place : (j k : ℕ) → j < length found → Earlier (reachedHistory found j) (reachedHistory found k) → j < k
+  earlier-place j k l b = earlier-index (reachedHistory found) j k (λ p. explored .inOrder k j p l) b
 
   same-place : (j k : ℕ) → j < length found → k < length found → stateAt found j ≡ stateAt found k → suc j ≡ suc k
   same-place j k lj lk e = sym (sound .once j lj) ∙ ap (numberIn found) e ∙ sound .once k lk
@@ -204,10 +204,10 @@ module _ (m : Machine) (most : ℕ) (begins : isState (m .start) ≡ true) (enou
     where
       go : (s : ℕ) → step m (stateAt found i) c ≡ s → (p : ℕ) × (d : ℕ) × Before p d (suc i) c × (step M p d ≡ suc k)
       go zero e = absurd (omega (arith, table-step i c l, ap (numberIn found) e))
-      go (suc s) e = (suc (r .parent), r .code, place (earlier-last (historyAt found (r .parent)) (historyAt found i) (r .code) c sooner), parent-entry k lk r)
+      go (suc s) e = (suc (r .parent), r .code, place (earlier-last (reachedHistory found (r .parent)) (reachedHistory found i) (r .code) c sooner), parent-entry k lk r)
         where
           -- where the entry leads
-          there : FoundBy found (step m (stateAt found i) c) (historyAt found i ++ (c ∷ []))
+          there : FoundBy found (step m (stateAt found i) c) (reachedHistory found i ++ (c ∷ []))
           there = reached-closed m most begins enough i c l (ap isState e)
 
           before : k < there .0
@@ -219,15 +219,15 @@ module _ (m : Machine) (most : ℕ) (begins : isState (m .start) ≡ true) (enou
           r : Follows m found k (getD found k unreached)
           r = sound .follows k lk (omega arith)
 
-          sooner : Earlier (historyAt found (r .parent) ++ (r .code ∷ [])) (historyAt found i ++ (c ∷ []))
-          sooner = subst (λ (t : Reached). Earlier (t .history) (historyAt found i ++ (c ∷ []))) (r .is)
-              (earlier-not-later (historyAt found k) (historyAt found (there .0)) (historyAt found i ++ (c ∷ []))
+          sooner : Earlier (reachedHistory found (r .parent) ++ (r .code ∷ [])) (reachedHistory found i ++ (c ∷ []))
+          sooner = subst (λ (t : Reached). Earlier (t .history) (reachedHistory found i ++ (c ∷ []))) (r .is)
+              (earlier-not-later (reachedHistory found k) (reachedHistory found (there .0)) (reachedHistory found i ++ (c ∷ []))
               (explored .inOrder k (there .0) before (there .1)) (there .3))
 
           lp : r .parent < length found
           lp = omega (arith, r .before, lk)
 
-          place : Earlier (historyAt found (r .parent)) (historyAt found i) ⊎ ((historyAt found (r .parent) ≡ historyAt found i) × (r .code < c))
+          place : Earlier (reachedHistory found (r .parent)) (reachedHistory found i) ⊎ ((reachedHistory found (r .parent) ≡ reachedHistory found i) × (r .code < c))
               → Before (suc (r .parent)) (r .code) (suc i) c
           place (inl u) = inl (omega (arith, earlier-place (r .parent) i lp u))
           place (inr u) =
@@ -255,5 +255,5 @@ module _ (m : Machine) (most : ℕ) (begins : isState (m .start) ≡ true) (enou
           let lj : j < length found = omega (arith, table-length m found) in
           let lk : k < length found = omega (arith, table-length m found) in
           let alike : Alike m (stateAt found j) m (stateAt found k) = λ h. sym (number-alike (suc j) lj h) ∙ a h ∙ number-alike (suc k) lk h in
-          let led = apart (historyAt found j) (historyAt found k) (rw (explored .leads j lj, explored .leads k lk) alike) in
+          let led = apart (reachedHistory found j) (reachedHistory found k) (rw (explored .leads j lj, explored .leads k lk) alike) in
           same-place j k lj lk (sym (explored .leads j lj) ∙ led ∙ explored .leads k lk)

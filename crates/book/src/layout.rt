@@ -3,7 +3,7 @@ ghost use mathlib.Core.Path.{_≡_};
 ghost use Prim.Native.Nat.{_≤_, _<_};
 ghost use lib.ListN.{length};
 ghost use Rattle.definitions.specs.Book as Book;
-ghost use Rattle.definitions.specs.Checked.{BookLayout};
+ghost use Rattle.definitions.specs.Checked.{BookHeader, BookLayout};
 use automaton::wide;
 
 // E, the number of events.
@@ -42,7 +42,15 @@ pub fn width(book: &[u8]) -> usize
     requires { ⌜ BookLayout (now book) ⌝ }
     ensures { λ r. ⌜ r ≡ Book.width (now (book .entry)) ⌝ }
 {
-    events(book) + 2 * requests(book)
+    width_from(book, requests(book))
+}
+
+// The same, from Q.
+pub fn width_from(book: &[u8], requests: usize) -> usize
+    requires { ⌜ (12 ≤ length (now book)) × BookHeader (now book) × (requests ≡ Book.requests (now book)) ⌝ }
+    ensures { λ r. ⌜ r ≡ Book.width (now (book .entry)) ⌝ }
+{
+    events(book) + 2 * requests
 }
 
 // Entry c of row s: the state after code c, 0 if it is not possible. The caller hands in the width, which it takes once.

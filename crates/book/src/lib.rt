@@ -8,6 +8,7 @@ pub use layout::events;
 pub use layout::requests;
 pub use layout::states;
 pub use layout::width;
+pub use layout::width_from;
 pub use same::same_bytes;
 pub use same::same_frame;
 pub use telling::Telling;

@@ -157,19 +157,19 @@ fn events_possible(book: &[u8]) -> bool
     requires { ⌜ BookLayout (now book) ⌝ }
     ensures { λ r. ⌜ r ≡ eventsPossible (now (book .entry)) ⌝ }
 {
-    if width(book) < 8 {
-        return possible_by_rows(book);
+    let w = width(book);
+    if w < 8 {
+        return possible_by_rows(book, w);
     }
-    possible_by_columns(book)
+    possible_by_columns(book, w)
 }
 
 // The same, row by row.
-fn possible_by_rows(book: &[u8]) -> bool
-    requires { ⌜ BookLayout (now book) ⌝ }
+fn possible_by_rows(book: &[u8], w: usize) -> bool
+    requires { ⌜ BookLayout (now book) × (w ≡ Book.width (now book)) ⌝ }
     ensures { λ r. ⌜ r ≡ eventsPossible (now (book .entry)) ⌝ }
 {
     let n = states(book);
-    let w = width(book);
     let e = events(book);
     let mut i = 0;
     while i < n {
@@ -182,13 +182,12 @@ fn possible_by_rows(book: &[u8]) -> bool
 }
 
 // The same by the least entry of each of the first eight columns, which is found for all eight at once and without a branch.
-fn possible_by_columns(book: &[u8]) -> bool
-    requires { ⌜ BookLayout (now book) × (8 ≤ Book.width (now book)) ⌝ }
+fn possible_by_columns(book: &[u8], w: usize) -> bool
+    requires { ⌜ BookLayout (now book) × (w ≡ Book.width (now book)) × (8 ≤ w) ⌝ }
     ensures { λ r. ⌜ r ≡ eventsPossible (now (book .entry)) ⌝ }
 {
     let mut least = [255u8; 8];
     let n = states(book);
-    let w = width(book);
     let mut i = 0;
     while i < n {
         lower(&mut least, book, 12 + i * w);

@@ -39,6 +39,6 @@ pub fn find_depths(book: &[u8], width: usize, depths: &mut [u8])
 {
     let mut order = [0u8; 128];
     let mut trail = [0u8; 256];
-    let n = explore_book(book, &mut order, &mut trail);
+    let n = explore_book(book, width, &mut order, &mut trail);
     note_depths(&order, &trail, n, depths);
 }

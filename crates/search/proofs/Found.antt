@@ -13,7 +13,7 @@ use Rattle.automaton.specs.History.{History}
 use Rattle.automaton.specs.Machine.{Machine, isState, after}
 use Rattle.automaton.specs.Explore.{Reached, isAt, numberIn, add, unreached, reached}
 use Rattle.automaton.proofs.Below.{length-list-below, getD-list-below, place-other}
-use Rattle.automaton.proofs.Explore.{number-end, stateAt, historyAt as reachedHistory, sound-apart, reached-sound, reached-leads, reached-few}
+use Rattle.automaton.proofs.Explore.{number-end, stateAt, reachedHistory, sound-apart, reached-sound, reached-leads, reached-few}
 use Rattle.automaton.proofs.Congruence.{list-below-same}
 use Rattle.automaton.proofs.Machine.{is-state, state-is}
 use Rattle.automaton.proofs.Separation.{HasStates, after-within}

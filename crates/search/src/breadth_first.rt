@@ -6,12 +6,12 @@ ghost use mathlib.Core.List.{[], _∷_, _++_};
 ghost use Prim.Native.Nat.{_≤_, _<_};
 ghost use lib.ListN.{length, set};
 ghost use Rattle.automaton.specs.Explore.{add};
+ghost use Rattle.definitions.specs.Book as Book;
 ghost use Rattle.definitions.specs.Checked.{BookPassed};
 ghost use Rattle.search.specs.Trail.{historyAt};
 ghost use Rattle.search.specs.Found.{SmallTable, statesOf, foundIn, Holds, Arrays, visitedAt, CanVisit, bookStates};
 use crate::trail::put;
 use automaton::wide;
-use book::width;
 
 // State 1 is found, with no history.
 fn begin(order: &mut [u8], numbers: &mut [u8])
@@ -92,10 +92,9 @@ pub fn explore(rows: &[u8], width: usize, order: &mut [u8], trail: &mut [u8]) ->
 }
 
 // The states of a book that passes the checks, in the order of their earliest history, each with that history. Returns how many there are.
-pub fn explore_book(book: &[u8], order: &mut [u8], trail: &mut [u8]) -> usize
-    requires { ⌜ BookPassed (now book) × (128 ≤ length (now order)) × (256 ≤ length (now trail)) ⌝ }
+pub fn explore_book(book: &[u8], width: usize, order: &mut [u8], trail: &mut [u8]) -> usize
+    requires { ⌜ BookPassed (now book) × (width ≡ Book.width (now book)) × (128 ≤ length (now order)) × (256 ≤ length (now trail)) ⌝ }
     ensures { λ r. ⌜ Holds (bookStates (now (book .entry))) r (now (order .exit)) (now (trail .exit)) ⌝ }
 {
-    let w = width(book);
-    explore(&book[12..], w, order, trail)
+    explore(&book[12..], width, order, trail)
 }

@@ -7,7 +7,6 @@ ghost use Rattle.streams.specs.Input.{readAnswer, Came, Filled};
 use libc::STDERR_FILENO;
 use libc::STDIN_FILENO;
 use libc::STDOUT_FILENO;
-use text::put;
 
 // How many bytes were read, or that a read failed.
 pub enum Input {
@@ -43,7 +42,7 @@ fn read_by(array: &mut [u8], buffer: &mut [u8], at: usize) -> Input
 {
     let got = libc::read(STDIN_FILENO, array);
     let came = io::count(got, array);
-    put(buffer, at, &array[..came]);
+    bytes::copy(&array[..came], &mut buffer[at..]);
     told(got, came)
 }
 

@@ -17,7 +17,7 @@ use Rattle.definitions.specs.Answer.{written, historyBytes}
 use Rattle.definitions.specs.Bytes.{byte}
 use Rattle.definitions.specs.Book.{events, requests, states, entry, bookMachine}
 use Rattle.definitions.specs.Demands.{Events, BlockedAfter}
-use Rattle.definitions.specs.Telling.{someRequest, answered}
+use Rattle.definitions.specs.Telling.{someRequest, answered, unanswered}
 use Rattle.definitions.specs.Verdict.{isBlocked, historyOf, blocked}
 use Rattle.definitions.proofs.Written.{written-read}
 use Rattle.definitions.specs.Checked.{BookPassed}
@@ -28,6 +28,10 @@ use Rattle.search.specs.Found.{reachedAt, foundIn, Holds, bookStates}
 use Rattle.verdict.specs.Marks.{marked, unmarkedAt, markedSuccessor, Marks, FixedPoint}
 use Rattle.search.proofs.FirstFound.{first-none, first-some}
 use Rattle.search.proofs.BookSearch.{book-first, book-inside, book-leads}
+use Rattle.verdict.specs.SoughtRequests.{someAt, soughtFinding}
+use Rattle.verdict.specs.declared.requests.Sought.the-variants.{Missing}
+use Rattle.verdict.proofs.LowestBelow.{lowest-end}
+use Rattle.verdict.proofs.RequestFindings.{none-found}
 
 is-false : (t : Bool) → (t ≡ true → ⊥) → t ≡ false
 is-false true f = absurd (f refl)
@@ -91,13 +95,9 @@ module _ (b : List ℕ) (ok : BookPassed b) (marks : List ℕ) (M : Marks b mark
       (λ e. blocked-to b ok h (unmarked-blocks e) .1)
 
 -- ---- the states found
-module _ (b : List ℕ) (ok : BookPassed b) {marks : List ℕ} (M : Marks b marks) (F : FixedPoint b marks)
-    {n : ℕ} {order trail : List ℕ} (H : Holds (bookStates b) n order trail) where
-  blocked-at : (k : ℕ) → k < n → isBlocked b (byte order k) ≡ unmarkedAt marks order k
-  blocked-at k l =
-      let led = book-leads b H ok k l in
-      subst (λ (s : ℕ). isBlocked b s ≡ not (marked marks s)) led
-      (blocked-is b ok marks M F (Trail.historyAt trail k) (ap isState led ∙ is-state (byte order k) (book-inside b H ok k l .0)))
+module _ (b : List ℕ) (ok : BookPassed b) {n : ℕ} {order trail : List ℕ} (H : Holds (bookStates b) n order trail) where
+  possible-at : (k : ℕ) → k < n → possible (bookMachine b) (Trail.historyAt trail k) ≡ true
+  possible-at k l = ap isState (book-leads b H ok k l) ∙ is-state (byte order k) (book-inside b H ok k l .0)
 
   blocked-by : (o : Option Reached) → firstThat (isBlocked b) (foundIn n order trail) ≡ o → blocked b ≡ historyOf o
   unfolding blocked
@@ -107,13 +107,35 @@ module _ (b : List ℕ) (ok : BookPassed b) {marks : List ℕ} (M : Marks b mark
   abbrev Tells : Option History → List ℕ → List ℕ → Type 0
   Tells answer buffer after = (answer ≡ blocked b) × (after ≡ written (historyBytes (blocked b)) buffer)
 
-  pub tells-none : n ≤ lowestBelow n (unmarkedAt marks order) → (buffer : List ℕ) → Tells none buffer buffer
-  tells-none l buffer = rw (blocked-by none (first-none (isBlocked b) order trail n (unmarkedAt marks order) blocked-at l)) (refl, refl)
+  -- a state that answers every request is not blocked
+  answering-at : (k : ℕ) → k < n → someAt Missing b order k ≡ false → isBlocked b (byte order k) ≡ false
+  answering-at k l e =
+      is-false (isBlocked b (byte order k)) (λ q.
+      let h = Trail.historyAt trail k in
+      let led = book-leads b H ok k l in
+      let none = blocked-from b ok h (possible-at k l, rw led q) .1 [] (λ i j. absurd (omega arith)) 0 (ok .layout .header .requestsSome) in
+      let same : after (bookMachine b) 1 (h ++ []) ≡ byte order k = after-append (bookMachine b) 1 h [] ∙ led in
+      let first : answered b (byte order k) 0 ≡ false = rw same at (unanswered-to b (h ++ []) 0 none) in
+      false≢true (sym e ∙ any-below (unanswered b (byte order k)) (requests b) 0 (ok .layout .header .requestsSome) (ap not first)))
 
-  pub tells-blocked : (k m : ℕ) (buffer after : List ℕ) → k ≡ lowestBelow n (unmarkedAt marks order) → k < n
-      → m ≡ length (Trail.historyAt trail k) → after ≡ written (Trail.historyAt trail k) buffer → Tells (some (take m after)) buffer after
-  tells-blocked k m buffer after ek l em ea =
-      rw (
-        blocked-by (some (reachedAt order trail k)) (first-some (isBlocked b) order trail n (unmarkedAt marks order) blocked-at k ek l),
-        written-read (Trail.historyAt trail k) buffer m after em ea,
-      ) (refl, ea)
+  pub tells-answered : soughtFinding Missing b ≡ none → (buffer : List ℕ) → Tells none buffer buffer
+  tells-answered e buffer =
+      let at : ℕ → Bool = λ (k : ℕ). isBlocked b (byte order k) in
+      let end = lowest-end at n n (λ k l. answering-at k l (none-found Missing b H e k l)) (omega arith) (omega arith) in
+      rw (blocked-by none (first-none (isBlocked b) order trail n at (λ k l. refl) (omega (arith, end)))) (refl, refl)
+
+  module _ {marks : List ℕ} (M : Marks b marks) (F : FixedPoint b marks) where
+    blocked-at : (k : ℕ) → k < n → isBlocked b (byte order k) ≡ unmarkedAt marks order k
+    blocked-at k l =
+        subst (λ (s : ℕ). isBlocked b s ≡ not (marked marks s)) (book-leads b H ok k l) (blocked-is b ok marks M F (Trail.historyAt trail k) (possible-at k l))
+
+    pub tells-none : n ≤ lowestBelow n (unmarkedAt marks order) → (buffer : List ℕ) → Tells none buffer buffer
+    tells-none l buffer = rw (blocked-by none (first-none (isBlocked b) order trail n (unmarkedAt marks order) blocked-at l)) (refl, refl)
+
+    pub tells-blocked : (k m : ℕ) (buffer after : List ℕ) → k ≡ lowestBelow n (unmarkedAt marks order) → k < n
+        → m ≡ length (Trail.historyAt trail k) → after ≡ written (Trail.historyAt trail k) buffer → Tells (some (take m after)) buffer after
+    tells-blocked k m buffer after ek l em ea =
+        rw (
+          blocked-by (some (reachedAt order trail k)) (first-some (isBlocked b) order trail n (unmarkedAt marks order) blocked-at k ek l),
+          written-read (Trail.historyAt trail k) buffer m after em ea,
+        ) (refl, ea)

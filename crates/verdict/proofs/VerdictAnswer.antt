@@ -1,8 +1,8 @@
 -- The rows of a verdict judged in order (row 1 for each buffer, then those of the book), and its answer and its buffers from the findings.
-use mathlib.Core.Path.{_≡_, refl, ap, _∙_}
-use mathlib.Core.Bool.{_&&_}
+use mathlib.Core.Path.{_≡_, refl, sym, ap, _∙_}
+use mathlib.Core.Bool.{false, true≢false, _&&_}
 use mathlib.Core.List.{List}
-use mathlib.Core.Option.{Option}
+use mathlib.Core.Option.{Option, none}
 use Prim.Native.Nat.{ℕ, _≤_, _<_}
 use lib.Dec.{leb}
 use lib.ListN.{length}
@@ -14,9 +14,11 @@ use Rattle.definitions.specs.Refusal.{bookRefusal}
 use Rattle.definitions.specs.Verdict.{Found, foundHistory, conflict, missing, blocked, Findings, findings, verdictRefusal, verdictAnswer, verdictBuffers}
 use Rattle.definitions.proofs.Tests.{judge-zero}
 use Rattle.definitions.proofs.Answers.{refused-answer, given-answer, refused-buffer}
-use Rattle.verdict.specs.SoughtRequests.{soughtFinding}
+use Rattle.verdict.specs.SoughtRequests.{soughtFinding, isFound}
 use Rattle.verdict.specs.declared.requests.Sought.the-variants.{Conflict, Missing}
-use Rattle.verdict.specs.VerdictAnswer.{buffersAfter}
+use Rattle.verdict.specs.VerdictAnswer.{foundOf, buffersAfter}
+use Rattle.verdict.specs.declared.finding.Finding.{Finding}
+use Rattle.verdict.specs.declared.finding.Finding.the-variants as Variant
 
 -- ---- the rows
 module _ (b forConflict forMissing forBlocked : List ℕ) where
@@ -59,6 +61,11 @@ not-refused b forConflict forMissing forBlocked e =
     }
 
 -- ---- the answer and the buffers
+-- an answer that has no finding says that there is none
+pub not-found : (f : Finding) (buffer : List ℕ) (found : Option Found) → foundOf f buffer ≡ found → isFound f ≡ false → found ≡ none
+not-found Variant.None buffer found e n = sym e
+not-found (Variant.Found request m) buffer found e n = absurd (true≢false n)
+
 -- what is found is what document 01 says
 pub answer-are : (b : List ℕ) (c m : Option Found) (k : Option History) → c ≡ soughtFinding Conflict b → m ≡ soughtFinding Missing b → k ≡ blocked b
     → given (record { conflict = c; missing = m; blocked = k }) ≡ given (findings b)

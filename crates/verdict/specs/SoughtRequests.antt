@@ -9,6 +9,8 @@ use Rattle.definitions.specs.Bytes.{byte}
 use Rattle.definitions.specs.Book.{requests}
 use Rattle.definitions.specs.Telling.{Telling, none, both, accept, reject, inConflict, unanswered, answered, someRequest}
 use Rattle.definitions.specs.Verdict.{Found, finding}
+use Rattle.verdict.specs.declared.finding.Finding as F
+use Rattle.verdict.specs.declared.finding.Finding.the-variants as Finding
 use Rattle.verdict.specs.declared.requests.Sought.{Sought}
 use Rattle.verdict.specs.declared.requests.Sought.the-variants.{Conflict, Missing, Answer}
 
@@ -49,3 +51,8 @@ pub record IsHit (sought : Sought) (b order : List ℕ) (n k r : ℕ) : Type 0 w
 -- the finding for what is sought
 unfoldable pub soughtFinding : Sought → List ℕ → Option Found
 soughtFinding sought b = finding (testOf sought) b
+
+-- an answer that has a finding
+abbrev pub isFound : F.Finding → Bool
+isFound Finding.None = false
+isFound (Finding.Found request n) = true

@@ -8,6 +8,7 @@ mod finding;
 mod marks;
 mod requests;
 
+use book::width_from;
 use bookcheck::refusal;
 pub use finding::Blocked;
 pub use finding::Finding;
@@ -67,12 +68,13 @@ fn judge(book: &[u8], conflict: &mut [u8], missing: &mut [u8], blocked: &mut [u8
     ensures { λ _. ⌜ buffersAfter (now (conflict .exit)) (now (missing .exit)) (now (blocked .exit))
         ≡ verdictBuffers (now (book .entry)) (now (conflict .entry)) (now (missing .entry)) (now (blocked .entry)) ⌝ }
 {
+    let q = book::requests(book);
     let mut order = [0u8; 128];
     let mut trail = [0u8; 256];
-    let n = explore_book(book, &mut order, &mut trail);
-    let first = find(book, &order, &trail, n, Sought::Conflict, conflict);
-    let second = find(book, &order, &trail, n, Sought::Missing, missing);
-    let third = find_blocked(book, &order, &trail, n, blocked);
+    let n = explore_book(book, width_from(book, q), &mut order, &mut trail);
+    let first = find(book, q, &order, &trail, n, Sought::Conflict, conflict);
+    let second = find(book, q, &order, &trail, n, Sought::Missing, missing);
+    let third = find_blocked(book, q, &order, &trail, n, second, blocked);
     Judged::Given(Findings {
         conflict: first,
         missing: second,

@@ -12,32 +12,30 @@ use crate::requests::Sought;
 use crate::requests::lowest;
 use book::entry;
 use book::events;
-use book::requests;
 use book::states;
-use book::width;
+use book::width_from;
 
 // 1 for a state that answers some request, else 0.
-fn answers(book: &[u8], width: usize, requests: usize, state: usize) -> u8
-    requires { ⌜ BookPassed (now book) × (width ≡ Book.width (now book)) × (requests ≡ Book.requests (now book)) ⌝ }
+fn answers(book: &[u8], requests: usize, state: usize) -> u8
+    requires { ⌜ BookPassed (now book) × (requests ≡ Book.requests (now book)) ⌝ }
     requires { ⌜ (1 ≤ state) × (state ≤ Book.states (now book)) ⌝ }
     ensures { λ r. ⌜ r ≡ one (someRequest answered (now (book .entry)) state) ⌝ }
 {
-    if lowest(book, width, requests, state, Sought::Answer) < requests {
+    if lowest(book, requests, state, Sought::Answer) < requests {
         return 1;
     }
     0
 }
 
 // Marks the states that answer some request.
-fn mark_answering(book: &[u8], width: usize, marks: &mut [u8])
-    requires { ⌜ BookPassed (now book) × (width ≡ Book.width (now book)) × (128 ≤ length (now marks)) ⌝ }
+fn mark_answering(book: &[u8], requests: usize, marks: &mut [u8])
+    requires { ⌜ BookPassed (now book) × (requests ≡ Book.requests (now book)) × (128 ≤ length (now marks)) ⌝ }
     ensures { λ _. ⌜ Marks (now (book .entry)) (now (marks .exit)) ⌝ }
 {
-    let q = requests(book);
     let n = states(book);
     let mut s = 1;
     while s <= n {
-        marks[s] = answers(book, width, q, s);
+        marks[s] = answers(book, requests, s);
         s += 1;
     }
 }
@@ -93,12 +91,12 @@ fn mark_round(book: &[u8], width: usize, marks: &mut [u8]) -> usize
 }
 
 // Marks exactly the states from which some request is answered, now or after a list of events.
-pub fn mark(book: &[u8], marks: &mut [u8])
-    requires { ⌜ BookPassed (now book) × (128 ≤ length (now marks)) ⌝ }
+pub fn mark(book: &[u8], requests: usize, marks: &mut [u8])
+    requires { ⌜ BookPassed (now book) × (requests ≡ Book.requests (now book)) × (128 ≤ length (now marks)) ⌝ }
     ensures { λ _. ⌜ Marks (now (book .entry)) (now (marks .exit)) × FixedPoint (now (book .entry)) (now (marks .exit)) ⌝ }
 {
-    let w = width(book);
-    mark_answering(book, w, marks);
+    let w = width_from(book, requests);
+    mark_answering(book, requests, marks);
     let mut gained = 1;
     while 0 < gained {
         gained = mark_round(book, w, marks);

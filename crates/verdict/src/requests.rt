@@ -8,6 +8,7 @@ ghost use Rattle.book.specs.Tellings.{tellingOf};
 ghost use Rattle.verdict.specs.SoughtRequests.{isNone, isBoth, soughtBy, testOf};
 use book::Telling;
 use book::telling_at;
+use book::width_from;
 
 // What is looked for: a request that may be both accepted and rejected, one that may be neither, or one that may be either.
 pub enum Sought {
@@ -49,15 +50,16 @@ fn is_sought(sought: Sought, told: Telling) -> bool
     }
 }
 
-// The lowest request that is sought at a state, the number of requests if there is none. The caller hands in the width and the number of requests.
-pub fn lowest(book: &[u8], width: usize, requests: usize, state: usize, sought: Sought) -> usize
-    requires { ⌜ BookPassed (now book) × (width ≡ Book.width (now book)) × (requests ≡ Book.requests (now book)) ⌝ }
+// The lowest request that is sought at a state, the number of requests if there is none. The caller hands in the number of requests, which it takes once.
+pub fn lowest(book: &[u8], requests: usize, state: usize, sought: Sought) -> usize
+    requires { ⌜ BookPassed (now book) × (requests ≡ Book.requests (now book)) ⌝ }
     requires { ⌜ (1 ≤ state) × (state ≤ Book.states (now book)) ⌝ }
     ensures { λ r. ⌜ r ≡ lowestBelow requests (testOf sought (now (book .entry)) state) ⌝ }
 {
+    let w = width_from(book, requests);
     let mut r = 0;
     while r < requests {
-        if is_sought(sought, telling_at(book, width, state, r)) {
+        if is_sought(sought, telling_at(book, w, state, r)) {
             return r;
         }
         r += 1;

@@ -13,24 +13,18 @@ use Rattle.bookcheck.proofs.possible_by_columns.Statement.{statement}
 use Rattle.bookcheck.proofs.possible_by_columns.Tie as tie
 
 abbrev Inv-loop : tie.InvT-loop
-Inv-loop book least₀ n w i₀ least i = (i ≤ n) × Columns book i least
+Inv-loop book w least₀ n i₀ least i = (i ≤ n) × Columns book i least
 
 abbrev μ-loop : tie.MeasureT-loop
-μ-loop book least₀ n w i₀ least i = n - i
+μ-loop book w least₀ n i₀ least i = n - i
 
 -- row i stands within the book, and `lower` borrows its first eight entries
 row : (c : tie.After-least Inv-loop μ-loop)
-    → 12 + c .before .before .loop .i * c .before .before .before .width .result + c .before .before .before .width .result ≤ length (c .before .before .before .before .before .before .args .book .now)
-row c =
-    let s = c .before .before .before .before .before .before in
-    let w = c .before .before .before .width in
-    row-inside (s .args .book .now) (s .pre .0) (w .result) (w .ensures) (c .before .before .loop .i) (omega arith)
+    → 12 + c .before .before .loop .i * c .before .before .before .before .before .args .w + c .before .before .before .before .before .args .w ≤ length (c .before .before .before .before .before .args .book .now)
+row c = let s = c .before .before .before .before .before in row-inside (s .args .book .now) (s .pre .0) (s .args .w) (s .pre .1) (c .before .before .loop .i) (omega arith)
 
 states-requires : tie.Need-states-requires Inv-loop μ-loop
 states-requires c κs = search needs
-
-width-requires : tie.Need-width-requires Inv-loop μ-loop
-width-requires c κs = search needs
 
 loop-holds : tie.Need-loop-holds Inv-loop μ-loop
 loop-holds c = (search needs, columns-begun _)
@@ -56,8 +50,8 @@ loop-less c = search needs
 loop-again : tie.Need-loop-again Inv-loop μ-loop
 loop-again c =
     let l = c .before .before .before .before .loop in
-    let w = c .before .before .before .before .before .width in
-    (omega arith, columns-turn _ (l .inv .1) (rw (w .ensures) at (c .before .lower .ensures)))
+    let s = c .before .before .before .before .before .before .before in
+    (omega arith, columns-turn _ (l .inv .1) (rw (s .pre .1) at (c .before .lower .ensures)))
 
 slice-aggregate-all-possible : tie.Need-slice-aggregate-all-possible Inv-loop μ-loop
 slice-aggregate-all-possible c = sym (c .before .before .loop .inv .1 .eight)
@@ -66,14 +60,14 @@ events-requires : tie.Need-events-requires Inv-loop μ-loop
 events-requires c κs = search needs
 
 all-possible-requires : tie.Need-all-possible-requires Inv-loop μ-loop
-all-possible-requires c κs = omega (arith, c .before .before .before .loop .inv .1 .eight, c .before .before .before .before .before .before .before .pre .0 .header .eventsMost)
+all-possible-requires c κs = omega (arith, c .before .before .before .loop .inv .1 .eight, c .before .before .before .before .before .before .pre .0 .header .eventsMost)
 
 returns : tie.Need-returns Inv-loop μ-loop
 returns c =
-    let s = c .before .before .before .before .before .before .before .before in
+    let s = c .before .before .before .before .before .before .before in
     let b = s .args .book .now in
     let l = c .before .before .before .before .loop in
-    let all : l .i ≡ states b = omega (arith, c .before .before .before .before .before .before .states .ensures) in
+    let all : l .i ≡ states b = omega (arith, c .before .before .before .before .before .states .ensures) in
     let e : c .before .events .result ≡ events b = c .before .events .ensures in
     c .all-possible .ensures
     ∙ ap (λ (k : ℕ). allBelow k (isPossible (l .least) 0)) e
@@ -86,7 +80,6 @@ possible-by-columns-spec =
     Inv-loop
     μ-loop
     states-requires
-    width-requires
     loop-holds
     slice-aggregate-lower
     mul-lower

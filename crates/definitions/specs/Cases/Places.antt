@@ -1,9 +1,10 @@
 -- Each byte of a policy and of a book in turn holds a value that it cannot have. Events, fields, variables and rules differ in number, so that a record read
 -- at a wrong place gives another number. The values were computed by the reference.
-use mathlib.Core.List.{List, [], _∷_}
+use mathlib.Core.List.{List, [], _∷_, _++_}
 use Prim.Native.Nat.{ℕ}
-use lib.ListN.{length, set}
+use lib.ListN.{length, set, replicate}
 use Rattle.automaton.specs.Below.{listBelow}
+use Rattle.definitions.specs.Book.{concat}
 use Rattle.definitions.specs.Refusal.{policyRefusal, bookRefusal}
 use Rattle.definitions.specs.Build.{bookOf}
 use Rattle.definitions.specs.Shelf.{shelfText}
@@ -52,47 +53,19 @@ numberWith refusal file x i = refusal (set file i x)
 abbrev numbersWith : (List ℕ → ℕ) → List ℕ → ℕ → List ℕ
 numbersWith refusal file x = listBelow (length file) (numberWith refusal file x)
 
--- the head; the counts; each rule's two masks, decision, level and four variables; the events' changes
+-- the head and the counts; each rule's two masks, decision, level and four variables; the events' changes
 abbrev policyNumbers : List ℕ
 policyNumbers =
-    3 ∷ 3 ∷ 3 ∷ 4 ∷ 4 ∷ 5 ∷ 5 ∷ 5 ∷ 5
-    ∷ 7 ∷ 7
-    ∷ 8 ∷ 8 ∷ 8 ∷ 8 ∷ 9 ∷ 0 ∷ 9 ∷ 9 ∷ 9 ∷ 9 ∷ 9 ∷ 9 ∷ 9 ∷ 9 ∷ 9 ∷ 9 ∷ 9 ∷ 9
-    ∷ 8 ∷ 8 ∷ 8 ∷ 8 ∷ 9 ∷ 0 ∷ 9 ∷ 9 ∷ 9 ∷ 9 ∷ 9 ∷ 9 ∷ 9 ∷ 9 ∷ 9 ∷ 9 ∷ 9 ∷ 9
-    ∷ 8 ∷ 8 ∷ 8 ∷ 8 ∷ 9 ∷ 0 ∷ 9 ∷ 9 ∷ 9 ∷ 9 ∷ 9 ∷ 9 ∷ 9 ∷ 9 ∷ 9 ∷ 9 ∷ 9 ∷ 9
-    ∷ 8 ∷ 8 ∷ 8 ∷ 8 ∷ 9 ∷ 0 ∷ 9 ∷ 9 ∷ 9 ∷ 9 ∷ 9 ∷ 9 ∷ 9 ∷ 9 ∷ 9 ∷ 9 ∷ 9 ∷ 9
-    ∷ 8 ∷ 8 ∷ 8 ∷ 8 ∷ 9 ∷ 0 ∷ 9 ∷ 9 ∷ 9 ∷ 9 ∷ 9 ∷ 9 ∷ 9 ∷ 9 ∷ 9 ∷ 9 ∷ 9 ∷ 9
-    ∷ 9 ∷ 9 ∷ 9 ∷ 9 ∷ 9 ∷ 9 ∷ 9 ∷ 9 ∷ 9 ∷ 9 ∷ 9 ∷ 9 ∷ []
+    3 ∷ 3 ∷ 3 ∷ 4 ∷ 4 ∷ 5 ∷ 5 ∷ 5 ∷ 5 ∷ 7 ∷ 7
+    ∷ concat (replicate 5 (8 ∷ 8 ∷ 8 ∷ 8 ∷ 9 ∷ 0 ∷ replicate 12 9)) ++ replicate 12 9
 
 -- the head; the rows, in which every entry is above n
 abbrev bookNumbers : List ℕ
-bookNumbers =
-    12 ∷ 12 ∷ 12 ∷ 12 ∷ 12 ∷ 13 ∷ 13 ∷ 13 ∷ 13 ∷ 13 ∷ 13 ∷ 13
-    ∷ 14 ∷ 14 ∷ 14 ∷ 14 ∷ 14 ∷ 14 ∷ 14
-    ∷ 14 ∷ 14 ∷ 14 ∷ 14 ∷ 14 ∷ 14 ∷ 14
-    ∷ 14 ∷ 14 ∷ 14 ∷ 14 ∷ 14 ∷ 14 ∷ 14
-    ∷ 14 ∷ 14 ∷ 14 ∷ 14 ∷ 14 ∷ 14 ∷ 14
-    ∷ 14 ∷ 14 ∷ 14 ∷ 14 ∷ 14 ∷ 14 ∷ 14
-    ∷ 14 ∷ 14 ∷ 14 ∷ 14 ∷ 14 ∷ 14 ∷ 14
-    ∷ 14 ∷ 14 ∷ 14 ∷ 14 ∷ 14 ∷ 14 ∷ 14
-    ∷ 14 ∷ 14 ∷ 14 ∷ 14 ∷ 14 ∷ 14 ∷ 14
-    ∷ 14 ∷ 14 ∷ 14 ∷ 14 ∷ 14 ∷ 14 ∷ 14
-    ∷ 14 ∷ 14 ∷ 14 ∷ 14 ∷ 14 ∷ 14 ∷ 14 ∷ []
+bookNumbers = 12 ∷ 12 ∷ 12 ∷ 12 ∷ 12 ∷ 13 ∷ 13 ∷ 13 ∷ 13 ∷ 13 ∷ 13 ∷ 13 ∷ replicate 70 14
 
 -- the rows, in which 0 is no state, and an event is always possible
 abbrev bookNumbersOfZero : List ℕ
-bookNumbersOfZero =
-    12 ∷ 12 ∷ 12 ∷ 0 ∷ 12 ∷ 13 ∷ 13 ∷ 13 ∷ 13 ∷ 0 ∷ 0 ∷ 13
-    ∷ 14 ∷ 14 ∷ 14 ∷ 0 ∷ 0 ∷ 0 ∷ 0
-    ∷ 14 ∷ 14 ∷ 14 ∷ 0 ∷ 0 ∷ 0 ∷ 0
-    ∷ 14 ∷ 14 ∷ 14 ∷ 0 ∷ 0 ∷ 0 ∷ 0
-    ∷ 14 ∷ 14 ∷ 14 ∷ 0 ∷ 0 ∷ 0 ∷ 0
-    ∷ 14 ∷ 14 ∷ 14 ∷ 0 ∷ 0 ∷ 0 ∷ 0
-    ∷ 14 ∷ 14 ∷ 14 ∷ 0 ∷ 0 ∷ 0 ∷ 0
-    ∷ 14 ∷ 14 ∷ 14 ∷ 0 ∷ 0 ∷ 0 ∷ 0
-    ∷ 14 ∷ 14 ∷ 14 ∷ 0 ∷ 0 ∷ 0 ∷ 0
-    ∷ 14 ∷ 14 ∷ 14 ∷ 0 ∷ 0 ∷ 0 ∷ 0
-    ∷ 14 ∷ 14 ∷ 14 ∷ 0 ∷ 0 ∷ 0 ∷ 0 ∷ []
+bookNumbersOfZero = 12 ∷ 12 ∷ 12 ∷ 0 ∷ 12 ∷ 13 ∷ 13 ∷ 13 ∷ 13 ∷ 0 ∷ 0 ∷ 13 ∷ concat (replicate 10 (14 ∷ 14 ∷ 14 ∷ 0 ∷ 0 ∷ 0 ∷ 0 ∷ []))
 
 abbrev pub placeCases : List Claim
 placeCases =

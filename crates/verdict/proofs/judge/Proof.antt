@@ -3,7 +3,7 @@ use native.Mathlib.Omega.{arith}
 use denote.Ref.{now}
 use Rattle.definitions.specs.Checked.{BookPassed}
 use Rattle.definitions.proofs.Accepted.{book-passed}
-use Rattle.verdict.proofs.VerdictAnswer.{NotRefused, not-refused, answer-are, buffers-are}
+use Rattle.verdict.proofs.VerdictAnswer.{NotRefused, not-refused, not-found, answer-are, buffers-are}
 use borrow.Author.Needs.{needs}
 use Rattle.verdict.proofs.judge.Statement.{statement}
 use Rattle.verdict.proofs.judge.Tie as tie
@@ -16,7 +16,13 @@ pass c = book-passed _ .0 (rows c .book)
 
 -- from the search back to the start
 abbrev start : tie.After-explore-book → tie.Start
-start c = c .before .before .before .before .before .before .before
+start c = c .before .before .before .before .before .before .before .before .before
+
+requests-requires : tie.Need-requests-requires
+requests-requires c κs = let p = pass (c .before .before .before .before) in (p .long, p .layout .header .fieldsMost)
+
+width-from-requires : tie.Need-width-from-requires
+width-from-requires c κs = let p = pass (c .before .before .before .before .before) in (p .long, p .layout .header, c .requests .ensures)
 
 slice-aggregate-explore-book : tie.Need-slice-aggregate-explore-book
 slice-aggregate-explore-book c = search needs
@@ -25,7 +31,7 @@ slice-aggregate-explore-book-2 : tie.Need-slice-aggregate-explore-book-2
 slice-aggregate-explore-book-2 c = search needs
 
 explore-book-requires : tie.Need-explore-book-requires
-explore-book-requires c κs = (pass (c .before .before .before .before .before .before), search needs, search needs)
+explore-book-requires c κs = (pass (c .before .before .before .before .before .before .before .before), c .before .before .width-from .ensures, search needs, search needs)
 
 slice-aggregate-find : tie.Need-slice-aggregate-find
 slice-aggregate-find c = search needs
@@ -34,7 +40,7 @@ slice-aggregate-find-2 : tie.Need-slice-aggregate-find-2
 slice-aggregate-find-2 c = search needs
 
 find-requires : tie.Need-find-requires
-find-requires c κs = let e = c .before .before .before .before .before in ((pass (start e), e .explore-book .ensures), (search needs, search needs, rows (start e) .longConflict))
+find-requires c κs = let e = c .before .before .before .before .before in ((pass (start e), e .before .before .before .before .requests .ensures, e .explore-book .ensures), (search needs, search needs, rows (start e) .longConflict))
 
 slice-aggregate-find-3 : tie.Need-slice-aggregate-find-3
 slice-aggregate-find-3 c = search needs
@@ -43,7 +49,7 @@ slice-aggregate-find-4 : tie.Need-slice-aggregate-find-4
 slice-aggregate-find-4 c = search needs
 
 find-requires-2 : tie.Need-find-requires-2
-find-requires-2 c κs = let e = c .before .before .before .before .before .before .before .before .before .before .before in ((pass (start e), e .explore-book .ensures), (search needs, search needs, rows (start e) .longMissing))
+find-requires-2 c κs = let e = c .before .before .before .before .before .before .before .before .before .before .before in ((pass (start e), e .before .before .before .before .requests .ensures, e .explore-book .ensures), (search needs, search needs, rows (start e) .longMissing))
 
 slice-aggregate-find-blocked : tie.Need-slice-aggregate-find-blocked
 slice-aggregate-find-blocked c = search needs
@@ -52,7 +58,7 @@ slice-aggregate-find-blocked-2 : tie.Need-slice-aggregate-find-blocked-2
 slice-aggregate-find-blocked-2 c = search needs
 
 find-blocked-requires : tie.Need-find-blocked-requires
-find-blocked-requires c κs = let e = c .before .before .before .before .before .before .before .before .before .before .before .before .before .before .before .before .before in ((pass (start e), e .explore-book .ensures), (search needs, search needs, rows (start e) .longBlocked))
+find-blocked-requires c κs = let f = c .before .before .before .before .before .find2 in let e = c .before .before .before .before .before .before .before .before .before .before .before .before .before .before .before .before .before in ((pass (start e), e .before .before .before .before .requests .ensures, e .explore-book .ensures), (not-found (f .result) (f .last .1 .1 .1 .1 .1 .1 .0) _ (f .ensures .0), (search needs, search needs, rows (start e) .longBlocked)))
 
 same-length : tie.Need-same-length
 same-length c = search needs
@@ -74,6 +80,8 @@ pub judge-spec : {M : Type 1} → statement M
 judge-spec =
     tie.close
     (tie.spec
+    requests-requires
+    width-from-requires
     slice-aggregate-explore-book
     slice-aggregate-explore-book-2
     explore-book-requires

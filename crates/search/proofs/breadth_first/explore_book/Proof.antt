@@ -4,9 +4,6 @@ use borrow.Author.Needs.{needs}
 use Rattle.search.proofs.breadth_first.explore_book.Statement.{statement}
 use Rattle.search.proofs.breadth_first.explore_book.Tie as tie
 
-width-requires : tie.Need-width-requires
-width-requires c κs = search needs
-
 sub-explore : tie.Need-sub-explore
 sub-explore c = search needs
 
@@ -17,7 +14,7 @@ part-explore-end : tie.Need-part-explore-end
 part-explore-end c = search needs
 
 explore-requires : tie.Need-explore-requires
-explore-requires c κs = let p = c .before .before .before .before .before .before .before .pre in (part-rows _ (p .0) _ (c .before .before .before .width .ensures), p .1, p .2)
+explore-requires c κs = let p = c .before .before .before .before .before .before .pre in (part-rows _ (p .0) _ (p .1), p .2, p .3)
 
 same-length : tie.Need-same-length
 same-length c = search needs
@@ -26,13 +23,12 @@ same-length-2 : tie.Need-same-length-2
 same-length-2 c = search needs
 
 returns : tie.Need-returns
-returns c = part-states _ (c .before .before .before .before .before .before .before .before .before .before .before .before .pre .0) _ (c .before .before .before .before .before .before .before .before .width .ensures) (c .before .before .before .before .explore .ensures)
+returns c = let p = c .before .before .before .before .before .before .before .before .before .before .before .pre in part-states _ (p .0) _ (p .1) (c .before .before .before .before .explore .ensures)
 
 pub explore-book-spec : {M : Type 1} → statement M
 explore-book-spec =
     tie.close
     (tie.spec
-    width-requires
     sub-explore
     part-explore-start
     part-explore-end

@@ -10,17 +10,17 @@ use Rattle.verdict.proofs.finding.find.Tie as tie
 first-with-requires : tie.Need-first-with-requires
 first-with-requires c κs =
     let p = c .before .before .before .before .pre in
-    (p .0 .0, omega (arith, book-few _ (p .0 .1) (p .0 .0), p .1 .0), book-inside _ (p .0 .1) (p .0 .0))
+    (p .0 .0, p .0 .1, omega (arith, book-few _ (p .0 .2) (p .0 .0), p .1 .0), book-inside _ (p .0 .2) (p .0 .0))
 
 returns : tie.Need-returns
 returns c =
     let s = c .before .before .before .before .before .before in
-    says-none (s .args .sought) _ (s .pre .0 .1) (omega (arith, c .before .first-with .ensures .first, c .if1 .taken)) (now (s .args .buffer))
+    says-none (s .args .sought) _ (s .pre .0 .2) (omega (arith, c .before .first-with .ensures .first, c .if1 .taken)) (now (s .args .buffer))
 
 write-history-requires : tie.Need-write-history-requires
 write-history-requires c κs =
     let p = c .before .before .before .before .before .before .before .pre in
-    book-trail _ (p .0 .1) (p .0 .0) _ (c .before .if1 .left) (p .1 .1) _ (p .1 .2)
+    book-trail _ (p .0 .2) (p .0 .0) _ (c .before .if1 .left) (p .1 .1) _ (p .1 .2)
 
 same-length : tie.Need-same-length
 same-length c = search needs
@@ -29,7 +29,7 @@ returns-2 : tie.Need-returns-2
 returns-2 c =
     let s = c .before .before .before .before .before .before .before .before .before .before in
     let e = c .before .before .write-history .ensures in
-    says-found (s .args .sought) _ (s .pre .0 .1) _ _ _ (now (s .args .buffer)) _ (c .before .before .before .before .before .first-with .ensures) (c .before .before .before .before .if1 .left) (e .0) (e .1)
+    says-found (s .args .sought) _ (s .pre .0 .2) _ _ _ (now (s .args .buffer)) _ (c .before .before .before .before .before .first-with .ensures) (c .before .before .before .before .if1 .left) (e .0) (e .1)
 
 pub find-spec : {M : Type 1} → statement M
 find-spec =

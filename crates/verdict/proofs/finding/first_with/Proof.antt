@@ -11,16 +11,10 @@ use Rattle.verdict.proofs.finding.first_with.Statement.{statement}
 use Rattle.verdict.proofs.finding.first_with.Tie as tie
 
 abbrev Inv-loop : tie.InvT-loop
-Inv-loop book order n sought w q k₀ k = (k ≤ n) × NoneBelow (someAt sought book order) k
+Inv-loop book requests order n sought k₀ k = (k ≤ n) × NoneBelow (someAt sought book order) k
 
 abbrev μ-loop : tie.MeasureT-loop
-μ-loop book order n sought w q k₀ k = n - k
-
-width-requires : tie.Need-width-requires Inv-loop μ-loop
-width-requires c κs = c .before .before .pre .0 .layout
-
-requests-requires : tie.Need-requests-requires Inv-loop μ-loop
-requests-requires c κs = let laid = c .before .before .before .pre .0 .layout in (omega (arith, laid .exact), laid .header .fieldsMost)
+μ-loop book requests order n sought k₀ k = n - k
 
 loop-holds : tie.Need-loop-holds Inv-loop μ-loop
 loop-holds c = (search needs, λ j l. absurd (omega arith))
@@ -33,16 +27,16 @@ wide-requires c κs = search needs
 
 lowest-requires : tie.Need-lowest-requires Inv-loop μ-loop
 lowest-requires c κs =
-    let s = c .before .before .before .before .before .before .before .before in
-    let inside = s .pre .2 (c .before .before .before .loop .k) (c .before .before .loop-test .taken) in
-    ((s .pre .0, c .before .before .before .before .before .width .ensures, c .before .before .before .before .requests .ensures), omega (arith, c .wide .ensures, inside))
+    let s = c .before .before .before .before .before .before in
+    let inside = s .pre .3 (c .before .before .before .loop .k) (c .before .before .loop-test .taken) in
+    ((s .pre .0, s .pre .1), omega (arith, c .wide .ensures, inside))
 
 returns : tie.Need-returns Inv-loop μ-loop
 returns c =
-    let a = c .before .before .before .before .before .before .before .before .before .before .args in
+    let a = c .before .before .before .before .before .before .before .before .args in
     let l = c .before .before .before .before .before .loop in
     let w = c .before .before .wide .ensures .0 in
-    let q = c .before .before .before .before .before .before .requests .ensures in
+    let q = c .before .before .before .before .before .before .before .before .pre .1 in
     let first = some-sought (a .sought) (a .book .now) (byte (a .order .now) (l .k)) _ _ _ w q (c .before .lowest .ensures) (c .if1 .taken) in
     is-hit (a .sought) (a .book .now) (a .order .now) (a .n) (l .k) _
     (lowest-hit (someAt (a .sought) (a .book .now) (a .order .now)) (a .n) (l .k) (l .inv .1) (c .before .before .before .before .loop-test .taken) first) _ _ w q (c .before .lowest .ensures)
@@ -55,14 +49,14 @@ loop-less c = search needs
 
 loop-again : tie.Need-loop-again Inv-loop μ-loop
 loop-again c =
-    let a = c .before .before .before .before .before .before .before .before .before .before .args in
+    let a = c .before .before .before .before .before .before .before .before .args in
     let l = c .before .before .before .before .before .loop in
-    let none = none-sought (a .sought) (a .book .now) (byte (a .order .now) (l .k)) _ _ _ (c .before .before .wide .ensures .0) (c .before .before .before .before .before .before .requests .ensures) (c .before .lowest .ensures) (c .if1 .left) in
+    let none = none-sought (a .sought) (a .book .now) (byte (a .order .now) (l .k)) _ _ _ (c .before .before .wide .ensures .0) (c .before .before .before .before .before .before .before .before .pre .1) (c .before .lowest .ensures) (c .if1 .left) in
     (search needs, below-more _ _ (l .inv .1) none)
 
 returns-2 : tie.Need-returns-2 Inv-loop μ-loop
 returns-2 c =
-    let a = c .before .before .before .before .before .before .args in
+    let a = c .before .before .before .before .args in
     let l = c .before .loop in
     no-hit (a .sought) (a .book .now) (a .order .now) (a .n) (l .k) 0
     (lowest-end (someAt (a .sought) (a .book .now) (a .order .now)) (a .n) (l .k) (l .inv .1) (c .loop-test .left) (l .inv .0)) (c .loop-test .left)
@@ -73,8 +67,6 @@ first-with-spec =
     (tie.spec
     Inv-loop
     μ-loop
-    width-requires
-    requests-requires
     loop-holds
     shared-slice-read-wide
     wide-requires

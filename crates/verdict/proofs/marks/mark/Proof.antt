@@ -3,7 +3,6 @@ use mathlib.Core.Path.{_≡_, refl}
 use Prim.Native.Nat.{_+_, _-_}
 use native.Mathlib.Omega.{arith}
 use lib.ListN.{length}
-use Rattle.definitions.specs.Book.{width}
 use Rattle.verdict.specs.Marks.{countMarks, Marks, FixedPoint}
 use Rattle.verdict.proofs.MarkRounds.{count-few}
 use borrow.Author.Needs.{needs}
@@ -11,13 +10,13 @@ use Rattle.verdict.proofs.marks.mark.Statement.{statement}
 use Rattle.verdict.proofs.marks.mark.Tie as tie
 
 abbrev Inv-loop : tie.InvT-loop
-Inv-loop book marks₀ w gained₀ marks gained = Marks book marks × (gained ≡ 0 → FixedPoint book marks) × (length marks ≡ length marks₀)
+Inv-loop book requests marks₀ w gained₀ marks gained = Marks book marks × (gained ≡ 0 → FixedPoint book marks) × (length marks ≡ length marks₀)
 
 abbrev μ-loop : tie.MeasureT-loop
-μ-loop book marks₀ w gained₀ marks gained = 128 - countMarks marks + gained
+μ-loop book requests marks₀ w gained₀ marks gained = 128 - countMarks marks + gained
 
-width-requires : tie.Need-width-requires Inv-loop μ-loop
-width-requires c κs = c .before .before .pre .0 .layout
+width-from-requires : tie.Need-width-from-requires Inv-loop μ-loop
+width-from-requires c κs = let p = c .before .before .pre in (p .0 .long, p .0 .layout .header, p .1)
 
 mark-answering-requires : tie.Need-mark-answering-requires Inv-loop μ-loop
 mark-answering-requires c κs = search needs
@@ -26,7 +25,7 @@ loop-holds : tie.Need-loop-holds Inv-loop μ-loop
 loop-holds c = (c .before .before .mark-answering .ensures, λ e. absurd (omega arith), refl)
 
 mark-round-requires : tie.Need-mark-round-requires Inv-loop μ-loop
-mark-round-requires c κs = (c .before .before .before .before .before .before .before .before .before .before .pre .0, c .before .before .before .before .before .before .before .width .ensures, c .before .before .loop .inv .0)
+mark-round-requires c κs = (c .before .before .before .before .before .before .before .before .before .before .pre .0, c .before .before .before .before .before .before .before .width-from .ensures, c .before .before .loop .inv .0)
 
 loop-less : tie.Need-loop-less Inv-loop μ-loop
 loop-less c =
@@ -49,7 +48,7 @@ mark-spec =
     (tie.spec
     Inv-loop
     μ-loop
-    width-requires
+    width-from-requires
     mark-answering-requires
     loop-holds
     mark-round-requires

@@ -11,32 +11,35 @@ use Rattle.verdict.proofs.requests.lowest.Statement.{statement}
 use Rattle.verdict.proofs.requests.lowest.Tie as tie
 
 abbrev Inv-loop : tie.InvT-loop
-Inv-loop book width requests state sought r₀ r = (r ≤ requests) × NoneBelow (testOf sought book state) r
+Inv-loop book requests state sought w r₀ r = (r ≤ requests) × NoneBelow (testOf sought book state) r
 
 abbrev μ-loop : tie.MeasureT-loop
-μ-loop book width requests state sought r₀ r = requests - r
+μ-loop book requests state sought w r₀ r = requests - r
 
 -- the test of request r
 tested : (c : tie.After-is-sought Inv-loop μ-loop)
-    → testOf (c .before .before .before .before .before .args .sought) (c .before .before .before .before .before .args .book .now) (c .before .before .before .before .before .args .state) (c .before .before .before .loop .r) ≡ c .is-sought .result
+    → testOf (c .before .before .before .before .before .before .args .sought) (c .before .before .before .before .before .before .args .book .now) (c .before .before .before .before .before .before .args .state) (c .before .before .before .loop .r) ≡ c .is-sought .result
 tested c =
-    let a = c .before .before .before .before .before .args in
+    let a = c .before .before .before .before .before .before .args in
     sought-is (a .sought) (a .book .now) (a .state) (c .before .before .before .loop .r) _ _ (c .before .telling-at .ensures) (c .is-sought .ensures)
+
+width-from-requires : tie.Need-width-from-requires Inv-loop μ-loop
+width-from-requires c κs = let p = c .before .pre .0 in (p .0 .long, p .0 .layout .header, p .1)
 
 loop-holds : tie.Need-loop-holds Inv-loop μ-loop
 loop-holds c = (search needs, λ j l. absurd (omega arith))
 
 telling-at-requires : tie.Need-telling-at-requires Inv-loop μ-loop
 telling-at-requires c κs =
-    let s = c .before .before .before in
-    ((s .pre .0 .0 .layout, s .pre .0 .1), (s .pre .1 .0, s .pre .1 .1, omega (arith, c .loop-test .taken, s .pre .0 .2)))
+    let s = c .before .before .before .before in
+    ((s .pre .0 .0 .layout, c .before .before .width-from .ensures), (s .pre .1 .0, s .pre .1 .1, omega (arith, c .loop-test .taken, s .pre .0 .1)))
 
 is-sought-requires : tie.Need-is-sought-requires Inv-loop μ-loop
 is-sought-requires c κs = search needs
 
 returns : tie.Need-returns Inv-loop μ-loop
 returns c =
-    let a = c .before .before .before .before .before .before .args in
+    let a = c .before .before .before .before .before .before .before .args in
     let l = c .before .before .before .before .loop in
     lowest-hit (testOf (a .sought) (a .book .now) (a .state)) (a .requests) (l .r) (l .inv .1) (c .before .before .before .loop-test .taken) (tested (c .before) ∙ c .if1 .taken)
 
@@ -53,7 +56,7 @@ loop-again c =
 
 returns-2 : tie.Need-returns-2 Inv-loop μ-loop
 returns-2 c =
-    let a = c .before .before .before .args in
+    let a = c .before .before .before .before .args in
     let l = c .before .loop in
     lowest-end (testOf (a .sought) (a .book .now) (a .state)) (a .requests) (l .r) (l .inv .1) (c .loop-test .left) (l .inv .0)
 
@@ -63,6 +66,7 @@ lowest-spec =
     (tie.spec
     Inv-loop
     μ-loop
+    width-from-requires
     loop-holds
     telling-at-requires
     is-sought-requires
