@@ -5,8 +5,8 @@ use Prim.Native.Nat.{ℕ, zero, suc, _+_, _-_, _*_, _/_, _≤_, _<_}
 use native.Mathlib.Nat.{add-zero, add-suc, add-assoc}
 use native.Mathlib.Numerals.{add-one}
 use native.Mathlib.Omega.{arith}
-use lib.ListN.{length, getD, drop, set, replicate, replicate-append-replicate}
-use lib.Seq.{getD-drop}
+use lib.ListN.{length, getD, drop, set, replicate, length-append, length-replicate, replicate-append-replicate}
+use lib.Seq.{sets, getD-drop, drop-at, set-comm, set-set}
 use borrow.Author.Tests.{lt-ltb, le-ltb}
 use Rattle.automaton.specs.Below.{listBelow}
 use Rattle.automaton.specs.Machine.{step}
@@ -86,6 +86,34 @@ pub blank-turn : (before : List ℕ) (at : ℕ) {out : List ℕ} (i : ℕ) → P
 blank-turn before at {out} i p =
     let place : at + (i + 1) ≡ (at + i) + 1 = omega arith in
     rw (← replicate-append-replicate i 1 blank, place) (then p (byte-put out (at + i) blank))
+
+-- ---- what is put over a text that is no shorter
+set-sets : (ys l : List ℕ) (i j x : ℕ) → i < j → set (sets l j ys) i x ≡ sets (set l i x) j ys
+set-sets [] l i j x b = refl
+set-sets (y ∷ ys) l i j x b =
+    set-sets ys (set l j y) i (suc j) x (omega arith) ∙ ap (λ (m : List ℕ). sets m (suc j) ys) (set-comm l j i y x (λ e. omega arith))
+
+sets-over : (xs ys l : List ℕ) (i : ℕ) → length xs ≤ length ys → sets (sets l i ys) i xs ≡ sets l i (xs ++ drop (length xs) ys)
+sets-over [] ys l i b = refl
+sets-over (x ∷ xs) [] l i b = absurd (omega arith)
+sets-over (x ∷ xs) (y ∷ ys) l i b =
+    ap (λ (m : List ℕ). sets m (suc i) xs)
+    (set-sets ys (set l i y) i (suc i) x (omega arith) ∙ ap (λ (m : List ℕ). sets m (suc i) ys) (set-set l i y x))
+    ∙ sets-over xs ys (set l i x) (suc i) (omega arith)
+
+pub put-over : {before middle after xs : List ℕ} {at end next : ℕ} (n q : ℕ) → Put before at (replicate n blank) middle end → Put middle at xs after next
+    → length xs ≡ q → q ≤ n → Put before at (xs ++ replicate (n - q) blank) after end
+put-over {before} {middle} {after} {xs} {at} n q under over e l =
+    let all : n ≡ q + (n - q) = omega arith in
+    let whole : replicate n blank ≡ replicate q blank ++ replicate (n - q) blank =
+    ap (λ (k : ℕ). replicate k blank) all ∙ sym (replicate-append-replicate q (n - q) blank) in
+    let rest : drop (length xs) (replicate n blank) ≡ replicate (n - q) blank =
+    ap (drop (length xs)) whole ∙ drop-at (replicate q blank) (replicate (n - q) blank) (length xs) (length-replicate q blank ∙ sym e) in
+    record {
+      stored = over .stored ∙ ap (λ (m : List ℕ). sets m at xs) (under .stored)
+          ∙ sets-over xs (replicate n blank) before at (omega (arith, length-replicate n blank)) ∙ ap (λ (r : List ℕ). sets before at (xs ++ r)) rest;
+      ends = omega (arith, under .ends, length-replicate n blank, length-append xs (replicate (n - q) blank), length-replicate (n - q) blank);
+    }
 
 -- ---- the columns of the requests
 module _ (b : List ℕ) (s : ℕ) where

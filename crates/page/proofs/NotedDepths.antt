@@ -9,113 +9,108 @@ use native.Mathlib.Decide.{decLt}
 use native.Mathlib.Numerals.{add-one}
 use native.Mathlib.Omega.{arith}
 use lib.Dec.{eqb}
-use lib.ListN.{length, set, replicate, length-set, length-replicate, getD-replicate, List·getD-eq-default}
+use lib.ListN.{length, set, length-set}
 use lib.Seq.{getD-set-same, getD-set-other}
 use borrow.Author.Tests.{eqb-true, eqb-false}
 use Rattle.automaton.specs.Below.{lowestBelow}
-use Rattle.automaton.specs.Explore.{firstThat}
+use Rattle.automaton.specs.Explore.{Reached, numberIn, firstThat}
 use Rattle.automaton.specs.Parents.{EarlierParents}
 use Rattle.automaton.proofs.Below.{below-suc, lowest-below}
+use Rattle.automaton.proofs.Explore.{number-hit}
 use Rattle.definitions.specs.Bytes.{byte}
 use Rattle.definitions.specs.Book.{states}
 use Rattle.definitions.specs.Checked.{BookPassed}
 use Rattle.definitions.specs.Verdict.{statesReached}
 use Rattle.search.specs.Trail.{firstAt, historyAt}
-use Rattle.search.specs.Found.{Holds, bookStates}
+use Rattle.search.specs.Found.{bookStates, Holds, Arrays}
+use Rattle.search.proofs.Found.{holds-length, holds-at}
 use Rattle.search.proofs.Trails.{history-empty, parent-low, history-short, step-length}
 use Rattle.search.proofs.FirstFound.{first-none, first-some}
-use Rattle.search.proofs.BookSearch.{book-first, book-few, book-inside, book-once}
-use Rattle.page.specs.Depths.{depthOf, Places, Noted, DepthsOf}
+use Rattle.search.proofs.BookSearch.{book-first, book-most, book-few, book-inside, book-once}
+use Rattle.page.specs.Depths.{depthOf, depthFrom, Places, CanNote, Noted, DepthsOf}
 
 -- ---- one state more
-module _ (order trail : List ℕ) where
-  pub places-fewer : (n k : ℕ) → k ≤ n → Places order trail n → Places order trail k
-  places-fewer n k l P = record {
-    few = omega (arith, P .few);
-    roomOrder = omega (arith, P .roomOrder);
-    roomTrail = omega (arith, P .roomTrail);
-    below = λ j b. P .below j (omega arith);
-    once = λ i j b c. P .once i j b (omega arith);
-    falls = λ j b. P .falls j (omega arith);
-  }
+module _ (order trail : List ℕ) (n : ℕ) (depths : List ℕ) (P : Places order trail n (length depths)) where
+  module _ (k x : ℕ) (N : Noted order trail n k depths) (l : k < n) (is : x ≡ suc (length (historyAt trail k))) where
+    noted-found : (j : ℕ) → (j < k) ⊎ (j ≡ k) → byte (set depths (byte order k) x) (byte order j) ≡ suc (length (historyAt trail j))
+    noted-found j (inl b) = getD-set-other depths (byte order k) (byte order j) x 0 (P .once j k b l) ∙ N .found j b
+    noted-found j (inr here) = rw here (getD-set-same depths (byte order k) x 0 (P .below k l) ∙ is)
 
-  -- the state y at place k is stored with depth x
-  module _ (k : ℕ) (P : Places order trail (k + 1)) (depths : List ℕ) (N : Noted order trail k depths) (y : ℕ) (is : y ≡ byte order k) where
-    pub state-inside : y < length depths
-    state-inside = omega (arith, P .below k (omega arith), N .room)
-
-    noted-found : (x j : ℕ) → x ≡ suc (length (historyAt trail k)) → (j < k) ⊎ (j ≡ k) → byte (set depths y x) (byte order j) ≡ suc (length (historyAt trail j))
-    noted-found x j e (inl b) =
-        getD-set-other depths y (byte order j) x 0 (λ same. P .once j k b (omega arith) (same ∙ is)) ∙ N .found j b
-    noted-found x j e (inr here) = rw (here, ← is) (getD-set-same depths y x 0 state-inside ∙ e)
-
-    noted-more : (x : ℕ) → x ≡ suc (length (historyAt trail k)) → Noted order trail (k + 1) (set depths y x)
-    noted-more x e = rw (add-one k) (record {
-      room = rw length-set (N .room);
-      found = λ j b. noted-found x j e (below-suc j k b);
-      others = λ s never.
-          getD-set-other depths y s x 0 (λ same. never k (omega arith) (sym (same ∙ is))) ∙ N .others s (λ j b. never j (omega arith));
-    })
+    noted-more : Noted order trail n (suc k) (set depths (byte order k) x)
+    noted-more = record {
+      found = λ j b. noted-found j (below-suc j k b);
+      others = λ s p m never.
+          getD-set-other depths (byte order k) s x 0 (λ e. never k l (sym e)) ∙ N .others s p (rw length-set at m) never;
+    }
 
   -- the first
-  pub noted-first : (n : ℕ) → 1 ≤ n → Places order trail n → (depths : List ℕ) → Noted order trail 0 depths → (y : ℕ) → y ≡ byte order 0
-      → (y < length depths) × Noted order trail 1 (set depths y 1)
-  noted-first n l P depths N y is =
-      let one = places-fewer n 1 l P in
+  pub noted-first : 1 ≤ n → Noted order trail n 0 depths → (y : ℕ) → y ≡ byte order 0 → (y < length depths) × Noted order trail n 1 (set depths y 1)
+  noted-first l N y e =
       let empty = ap length (history-empty trail 0 (λ j b. absurd (omega arith)) 0 refl) in
-      (state-inside 0 one depths N y is, noted-more 0 one depths N y is 1 (omega (arith, empty)))
+      rw e (P .below 0 l, noted-more 0 1 N l (omega (arith, empty)))
 
-  -- each other one was found from the state x at an earlier place p
-  module _ (k : ℕ) (P : Places order trail (k + 1)) (after-first : 1 ≤ k) (p : ℕ) (found-from : p ≡ firstAt trail k) where
-    parent-before : p < k
-    parent-before = parent-low trail k (λ j b. P .falls j (omega arith)) k p found-from after-first (omega arith)
+  -- each other one was found from a state at an earlier place
+  module _ (k : ℕ) (after-first : 1 ≤ k) (l : k < n) (N : Noted order trail n k depths) where
+    falls : (j : ℕ) → j ≤ k → EarlierParents (suc j) (firstAt trail)
+    falls j b i c = P .falls i (omega arith)
 
-    pub parent-inside : p < length order
-    parent-inside = omega (arith, parent-before, P .roomOrder)
+    parent-before : firstAt trail k < k
+    parent-before = parent-low trail k (falls k (omega arith)) k (firstAt trail k) refl after-first (omega arith)
 
-    module _ (depths : List ℕ) (N : Noted order trail k depths) (x : ℕ) (at-parent : x ≡ byte order p) where
-      pub depth-inside : x < length depths
-      depth-inside = omega (arith, P .below p (omega (arith, parent-before)), N .room)
+    depth-is : depthFrom order trail k depths ≡ suc (length (historyAt trail k))
+    depth-is = omega (arith, N .found (firstAt trail k) parent-before, step-length trail k (falls k (omega arith)) k after-first (omega arith))
 
-      depth-is : byte depths x ≡ suc (length (historyAt trail p))
-      depth-is = rw at-parent (N .found p parent-before)
+    pub can-note : CanNote order trail k depths
+    can-note = record {
+      inTrail = omega (arith, P .roomTrail);
+      inOrder = omega (arith, P .roomOrder);
+      parent = omega (arith, parent-before, P .roomOrder);
+      parentState = P .below (firstAt trail k) (omega (arith, parent-before));
+      state = P .below k l;
+      fits = omega (arith, depth-is, history-short trail k (falls k (omega arith)), P .few);
+    }
 
-      pub depth-fits : byte depths x + 1 < 256
-      depth-fits = omega (arith, depth-is, history-short trail p (λ j b. P .falls j (omega (arith, parent-before))), parent-before, P .few)
+    pub noted-next : {more : List ℕ} → more ≡ set depths (byte order k) (depthFrom order trail k depths) → Noted order trail n (k + 1) more
+    noted-next e = rw (e, add-one k) (noted-more k (depthFrom order trail k depths) N l depth-is)
 
-      pub noted-next : (y : ℕ) → y ≡ byte order k → Noted order trail (k + 1) (set depths y (byte depths x + 1))
-      noted-next y is =
-          noted-more k P depths N y is (byte depths x + 1)
-          (omega (arith, depth-is, ap (λ (j : ℕ). length (historyAt trail j)) found-from, step-length trail k (λ j b. P .falls j (omega arith)) k after-first (omega arith)))
+-- the places do not change with the depths
+pub places-same : {order trail : List ℕ} {n r s : ℕ} → r ≡ s → Places order trail n r → Places order trail n s
+places-same {order} {trail} {n} e P = rw (← e) P
 
--- ---- nothing is noted before the first
-pub nothing-noted : (order trail depths : List ℕ) → depths ≡ replicate 128 0 → Noted order trail 0 depths
-nothing-noted order trail depths e = rw e (record {
-  room = omega (arith, length-replicate {A = ℕ} 128 0);
-  found = λ j b. absurd (omega arith);
-  others = λ s never. none-at s (decLt s 128);
-})
-  where
-    none-at : (s : ℕ) → Dec (s < 128) → byte (replicate 128 0) s ≡ 0
-    none-at s (yes l) = getD-replicate 128 s 0 0 l
-    none-at s (no l) = List·getD-eq-default (replicate 128 0) 0 {n = s} (omega (arith, length-replicate {A = ℕ} 128 0))
-
--- ---- what a search of a book leaves, and the depths at its end
-module _ (b : List ℕ) {n : ℕ} {order trail : List ℕ} (H : Holds (bookStates b) n order trail) (ok : BookPassed b) where
-  pub book-places : 128 ≤ length order → 256 ≤ length trail → Places order trail n
-  book-places o t =
-      let few = book-few b H ok in
+-- ---- what a search of a book leaves
+module _ (b : List ℕ) {n : ℕ} {order trail numbers : List ℕ} (A : Arrays (bookStates b) n order trail numbers) (ok : BookPassed b) (enough : states b < length numbers) where
+  pub book-places : Places order trail n (length numbers)
+  book-places =
+      let most = book-most b (A .holds) ok in
       record {
-        few = few;
-        roomOrder = omega arith;
-        roomTrail = omega arith;
-        below = λ k l. omega (arith, book-inside b H ok k l, ok .layout .header .statesMost);
-        once = book-once b H ok;
-        falls = H .falls;
+        few = book-few b (A .holds) ok;
+        roomOrder = omega (arith, A .roomOrder);
+        roomTrail = omega (arith, A .roomTrail);
+        below = λ k l. omega (arith, book-inside b (A .holds) ok k l);
+        once = book-once b (A .holds) ok;
+        falls = A .holds .falls;
       }
 
-  pub book-depths : (depths : List ℕ) → Noted order trail n depths → DepthsOf b depths
-  book-depths depths N s p m = go (decLt k n)
+  -- its numbers are 0 where a state is not found
+  pub nothing-noted : Noted order trail n 0 numbers
+  nothing-noted = record { found = λ j b. absurd (omega arith); others = unfound }
+    where
+      unfound : (s : ℕ) → 1 ≤ s → s < length numbers → ((j : ℕ) → j < n → byte order j ≡ s → ⊥) → byte numbers s ≡ 0
+      unfound zero p l never = absurd (omega arith)
+      unfound (suc s) p l never = A .numbered (suc s) l ∙ go (numberIn (bookStates b) (suc s)) refl
+        where
+          go : (x : ℕ) → numberIn (bookStates b) (suc s) ≡ x → x ≡ 0
+          go zero e = refl
+          go (suc k) e =
+              let hit = number-hit (bookStates b) (suc s) k e in
+              let inside : k < n = omega (arith, hit .0, holds-length (A .holds)) in
+              absurd (never k inside (sym (hit .1 ∙ ap (λ (t : Reached). t .state) (holds-at (A .holds) k inside))))
+
+-- ---- the depths at its end
+module _ (b : List ℕ) {n : ℕ} {order trail : List ℕ} (H : Holds (bookStates b) n order trail) (depths : List ℕ) (N : Noted order trail n n depths)
+    (enough : states b < length depths) where
+  pub book-depths : DepthsOf b depths
+  book-depths s p m = go (decLt k n)
     where
       f : ℕ → Bool
       f j = eqb s (byte order j)
@@ -128,5 +123,5 @@ module _ (b : List ℕ) {n : ℕ} {order trail : List ℕ} (H : Holds (bookState
           ap (byte depths) (eqb-true s (byte order k) (lowest-below f n .passes l)) ∙ N .found k l
           ∙ ap depthOf (sym (book-first b H (eqb s) ∙ first-some (eqb s) order trail n f (λ j b. refl) k refl l))
       go (no l) =
-          N .others s (λ j c e. eqb-false s (byte order j) (lowest-below f n .first j (omega arith)) (sym e))
+          N .others s p (omega arith) (λ j c e. eqb-false s (byte order j) (lowest-below f n .first j (omega arith)) (sym e))
           ∙ ap depthOf (sym (book-first b H (eqb s) ∙ first-none (eqb s) order trail n f (λ j b. refl) (omega arith)))

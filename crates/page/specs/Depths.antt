@@ -23,20 +23,32 @@ abbrev pub depthOf : Option Reached → ℕ
 depthOf none = 0
 depthOf (some t) = suc (length (t .history))
 
--- the arrays of a search that found n states: each state once, each but the first from an earlier place
-pub record Places (order trail : List ℕ) (n : ℕ) : Type 0 where
+-- the arrays of a search that found n states, with room for so many depths: each state once, each but the first from an earlier place
+pub record Places (order trail : List ℕ) (n room : ℕ) : Type 0 where
   pub few : n ≤ 127
   pub roomOrder : n ≤ length order
   pub roomTrail : 2 * n ≤ length trail
-  pub below : (k : ℕ) → k < n → byte order k < 128
+  pub below : (k : ℕ) → k < n → byte order k < room
   pub once : (j k : ℕ) → j < k → k < n → byte order j ≡ byte order k → ⊥
   pub falls : EarlierParents n (firstAt trail)
 
--- the depths of the states at the first k places, and 0 for every other state
-pub record Noted (order trail : List ℕ) (k : ℕ) (depths : List ℕ) : Type 0 where
-  pub room : 128 ≤ length depths
+-- one more than the depth of the state that the one at place k was found from
+abbrev pub depthFrom : List ℕ → List ℕ → ℕ → List ℕ → ℕ
+depthFrom order trail k depths = byte depths (byte order (firstAt trail k)) + 1
+
+-- it can be noted
+pub record CanNote (order trail : List ℕ) (k : ℕ) (depths : List ℕ) : Type 0 where
+  pub inTrail : 2 * k < length trail
+  pub inOrder : k < length order
+  pub parent : firstAt trail k < length order
+  pub parentState : byte order (firstAt trail k) < length depths
+  pub state : byte order k < length depths
+  pub fits : depthFrom order trail k depths < 256
+
+-- of the n states at the places the depths of the first k are noted, and no other state has one
+pub record Noted (order trail : List ℕ) (n k : ℕ) (depths : List ℕ) : Type 0 where
   pub found : (j : ℕ) → j < k → byte depths (byte order j) ≡ suc (length (historyAt trail j))
-  pub others : (s : ℕ) → ((j : ℕ) → j < k → byte order j ≡ s → ⊥) → byte depths s ≡ 0
+  pub others : (s : ℕ) → 1 ≤ s → s < length depths → ((j : ℕ) → j < n → byte order j ≡ s → ⊥) → byte depths s ≡ 0
 
 -- the depths of all states of a book
 abbrev pub DepthsOf : List ℕ → List ℕ → Type 0

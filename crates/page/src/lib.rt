@@ -1,6 +1,6 @@
 // A page of the book for the file room: one line a state. Row 1 (the buffer) is decided here; stated in definitions/specs/Page.antt.
 ghost use mathlib.Core.Path.{_≡_};
-ghost use Prim.Native.Nat.{_*_, _≤_};
+ghost use Prim.Native.Nat.{_*_, _≤_, _<_};
 ghost use lib.ListN.{length};
 ghost use Rattle.definitions.specs.Answer.{written};
 ghost use Rattle.definitions.specs.Book as Book;
@@ -15,7 +15,7 @@ mod line;
 use automaton::wide;
 use book::requests;
 use book::states;
-use book::width;
+use book::width_from;
 use bookcheck::refusal;
 use depths::find_depths;
 use line::write_line;
@@ -41,32 +41,58 @@ pub fn page(book: &[u8], page: &mut [u8]) -> Paged
     Paged::Written(write_page(book, page))
 }
 
-// A call that no row refuses.
+// A call that no row refuses. Books of few states get small arrays, which are sooner cleared.
 fn write_page(book: &[u8], page: &mut [u8]) -> usize
     requires { ⌜ BookPassed (now book) × (9271 ≤ length (now page)) ⌝ }
     ensures { λ r. ⌜ r ≡ Book.states (now (book .entry)) * 73 ⌝ }
     ensures { λ _. ⌜ now (page .exit) ≡ written (pageOf (now (book .entry))) (now (page .entry)) ⌝ }
 {
-    let w = width(book);
+    let q = requests(book);
+    if states(book) < 16 {
+        return write_few(book, q, page);
+    }
+    write_many(book, q, page)
+}
+
+fn write_few(book: &[u8], requests: usize, page: &mut [u8]) -> usize
+    requires { ⌜ BookPassed (now book) × (requests ≡ Book.requests (now book)) × (9271 ≤ length (now page)) × (Book.states (now book) < 16) ⌝ }
+    ensures { λ r. ⌜ r ≡ Book.states (now (book .entry)) * 73 ⌝ }
+    ensures { λ _. ⌜ now (page .exit) ≡ written (pageOf (now (book .entry))) (now (page .entry)) ⌝ }
+{
+    let w = width_from(book, requests);
+    let mut order = [0u8; 16];
+    let mut trail = [0u8; 32];
+    let mut depths = [0u8; 16];
+    find_depths(book, w, &mut order, &mut trail, &mut depths);
+    write_lines(book, w, requests, &depths, page)
+}
+
+fn write_many(book: &[u8], requests: usize, page: &mut [u8]) -> usize
+    requires { ⌜ BookPassed (now book) × (requests ≡ Book.requests (now book)) × (9271 ≤ length (now page)) ⌝ }
+    ensures { λ r. ⌜ r ≡ Book.states (now (book .entry)) * 73 ⌝ }
+    ensures { λ _. ⌜ now (page .exit) ≡ written (pageOf (now (book .entry))) (now (page .entry)) ⌝ }
+{
+    let w = width_from(book, requests);
+    let mut order = [0u8; 128];
+    let mut trail = [0u8; 256];
     let mut depths = [0u8; 128];
-    find_depths(book, w, &mut depths);
-    write_lines(book, w, &depths, page)
+    find_depths(book, w, &mut order, &mut trail, &mut depths);
+    write_lines(book, w, requests, &depths, page)
 }
 
 // The lines of all states, one after another, and how many bytes they have.
-fn write_lines(book: &[u8], width: usize, depths: &[u8], page: &mut [u8]) -> usize
-    requires { ⌜ BookPassed (now book) × (width ≡ Book.width (now book)) × (9271 ≤ length (now page)) ⌝ }
-    requires { ⌜ (128 ≤ length (now depths)) × DepthsOf (now book) (now depths) ⌝ }
+fn write_lines(book: &[u8], width: usize, requests: usize, depths: &[u8], page: &mut [u8]) -> usize
+    requires { ⌜ BookPassed (now book) × (width ≡ Book.width (now book)) × (requests ≡ Book.requests (now book)) ⌝ }
+    requires { ⌜ (Book.states (now book) < length (now depths)) × DepthsOf (now book) (now depths) × (9271 ≤ length (now page)) ⌝ }
     ensures { λ r. ⌜ r ≡ Book.states (now (book .entry)) * 73 ⌝ }
     ensures { λ _. ⌜ now (page .exit) ≡ written (pageOf (now (book .entry))) (now (page .entry)) ⌝ }
 {
     let n = states(book);
-    let q = requests(book);
     let mut i = 0;
     while i < n {
         let at = i * 73;
         let depth = wide(depths[i + 1]);
-        write_line(&mut page[at..], book, width, q, i + 1, depth);
+        write_line(&mut page[at..], book, width, requests, i + 1, depth);
         i += 1;
     }
     n * 73

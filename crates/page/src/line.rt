@@ -96,7 +96,7 @@ fn put_blanks(line: &mut [u8], at: usize, n: usize) -> usize
     at + i
 }
 
-// The 64 columns of the requests: a letter for each, and blanks beyond them.
+// The 64 columns of the requests: a letter for each, and blanks beyond them. All are blank first, since a fixed number of blanks takes no loop.
 fn put_requests(
     line: &mut [u8],
     at: usize,
@@ -111,8 +111,9 @@ fn put_requests(
     ensures { λ r. ⌜ r ≡ at + 64 ⌝ }
 {
     let from = 12 + (state - 1) * width + events(book);
-    let next = put_letters(line, at, &book[from..], requests);
-    put_blanks(line, next, 64 - requests)
+    let end = put_blanks(line, at, 64);
+    put_letters(line, at, &book[from..], requests);
+    end
 }
 
 // The line of a state at the front of the buffer. The bytes after it are unchanged.

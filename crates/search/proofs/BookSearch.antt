@@ -25,9 +25,12 @@ module _ (b : List ℕ) {n : ℕ} {order trail : List ℕ} (H : Holds (bookState
   book-first test = ap (firstThat test) (sym (H .are))
 
   module _ (p : BookPassed b) where
-    pub book-few : n ≤ 127
+    pub book-most : n ≤ states b
     unfolding bookStates
-    book-few = le-trans (rw (holds-length H) (reached-most (bookMachine b) (states b) (has-states b p))) (p .layout .header .statesMost)
+    book-most = rw (holds-length H) (reached-most (bookMachine b) (states b) (has-states b p))
+
+    pub book-few : n ≤ 127
+    book-few = le-trans book-most (p .layout .header .statesMost)
 
     pub book-inside : StatesIn b n order
     unfolding bookStates
@@ -47,5 +50,8 @@ module _ (b : List ℕ) {n : ℕ} {order trail : List ℕ} (H : Holds (bookState
     book-leads = holds-leads (bookMachine b) (states b) (has-states b p) H
 
     -- what `write_history` asks for at place k
-    pub book-trail : (k : ℕ) → k < n → 256 ≤ length trail → (m : ℕ) → 128 ≤ m → (2 * k + 1 < length trail) × (EarlierParents (suc k) (firstAt trail) × (k ≤ m))
-    book-trail k l room m long = let few = book-few in (omega arith, (λ j h. H .falls j (omega arith), omega arith))
+    pub book-trail : (k : ℕ) → k < n → 2 * states b ≤ length trail → (m : ℕ) → 128 ≤ m → (2 * k + 1 < length trail) × (EarlierParents (suc k) (firstAt trail) × (k ≤ m))
+    book-trail k l room m long =
+        let most = book-most in
+        let few = book-few in
+        (omega arith, (λ j h. H .falls j (omega arith), omega arith))

@@ -132,7 +132,7 @@ module _ (found : List Reached) (h : History) where
   number-other x (suc y) n = place-other (isAt (suc y)) found (record { state = x; history = h }) (ne-eqb (suc y) x n)
 
 -- ---- state x is noted, found from place i by code c
-module _ {n : ℕ} {order trail numbers : List ℕ} (S : Arrays (foundIn n order trail) n order trail numbers) (x i c : ℕ) (inside : x < 128) (low : i < n) where
+module _ {n : ℕ} {order trail numbers : List ℕ} (S : Arrays (foundIn n order trail) n order trail numbers) (x i c : ℕ) (inside : x < length numbers) (low : i < n) where
   abbrev found : List Reached
   found = foundIn n order trail
 
@@ -142,24 +142,24 @@ module _ {n : ℕ} {order trail numbers : List ℕ} (S : Arrays (foundIn n order
   pub noted-known : 0 < byte numbers x → Arrays (add found x h) n order trail numbers
   noted-known p = rw (add-known found h x (omega (arith, S .numbered x inside))) S
 
-  module _ (none : byte numbers x ≤ 0) (few : length (add found x h) ≤ 127) where
+  module _ (none : byte numbers x ≤ 0) (fits : length (add found x h) < length numbers) where
     more : add found x h ≡ with found h x
     more = add-new found h x (omega (arith, S .numbered x inside))
 
-    pub noted-room : n < 127
-    noted-room = omega (arith, few, ap length more ∙ length-append found (record { state = x; history = h } ∷ []), found-length order trail n)
+    pub noted-room : n + 1 < length numbers
+    noted-room = omega (arith, fits, ap length more ∙ length-append found (record { state = x; history = h } ∷ []), found-length order trail n)
 
-    numbered-new : (s : ℕ) → s < 128 → Dec (s ≡ x) → byte (set numbers x (n + 1)) s ≡ numberOf (with found h x) s
+    numbered-new : (s : ℕ) → s < length numbers → Dec (s ≡ x) → byte (set numbers x (n + 1)) s ≡ numberOf (with found h x) s
     numbered-new s l (yes e) =
-        rw e (getD-set-same numbers x (n + 1) 0 (omega (arith, S .roomNumbers))
+        rw e (getD-set-same numbers x (n + 1) 0 inside
         ∙ omega (arith, number-new found h x (omega (arith, S .numbered x inside)), found-length order trail n))
     numbered-new s l (no e) = getD-set-other numbers x s (n + 1) 0 e ∙ S .numbered s l ∙ sym (number-other found h x s e)
 
     pub noted-new : Arrays (add found x h) (n + 1) (set order n x) (placed trail n i c) (set numbers x (n + 1))
     noted-new = rw more (record {
       holds = stored n order trail (S .holds .falls) (omega (arith, noted-room, S .roomOrder)) (omega (arith, noted-room, S .roomTrail)) x i c low;
-      roomOrder = rw length-set (S .roomOrder);
-      roomTrail = rw placed-length (S .roomTrail);
-      roomNumbers = rw length-set (S .roomNumbers);
-      numbered = λ s l. numbered-new s l (ℕ-discrete s x);
+      few = rw length-set (S .few);
+      roomOrder = simp length-set (S .roomOrder);
+      roomTrail = rw (length-set, placed-length) (S .roomTrail);
+      numbered = λ s l. numbered-new s (rw length-set at l) (ℕ-discrete s x);
     })

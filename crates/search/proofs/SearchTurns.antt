@@ -4,7 +4,7 @@ use mathlib.Core.List.{List, [], _∷_, _++_}
 use Prim.Native.Nat.{ℕ, zero, suc, _+_, _-_, _*_, _/_, _≤_, _<_}
 use native.Mathlib.Numerals.{add-one}
 use native.Mathlib.Omega.{arith}
-use lib.ListN.{length, getD, set, replicate, length-set, length-replicate, getD-replicate}
+use lib.ListN.{length, getD, set, length-set, getD-replicate}
 use lib.Seq.{getD-set-same, getD-set-other}
 use borrow.Author.Tests.{ne-eqb}
 use Rattle.automaton.specs.Machine.{Machine, step}
@@ -15,7 +15,7 @@ use Rattle.automaton.proofs.RemainingSearch.{visit-grows, Remains, remains-begu
 use Rattle.definitions.specs.Bytes.{byte}
 use Rattle.definitions.proofs.TableBytes.{state-row, state-entry}
 use Rattle.search.specs.Trail.{firstAt, secondAt, historyAt}
-use Rattle.search.specs.Found.{SmallTable, rowsMachine, statesOf, reachedAt, foundIn, Holds, numberOf, Arrays, visitedAt, CanVisit}
+use Rattle.search.specs.Found.{SmallTable, rowsMachine, statesOf, reachedAt, foundIn, numberOf, Arrays, EmptyArrays, visitedAt, CanVisit}
 use Rattle.search.proofs.TableRows.{rows-step, states-few, states-inside}
 use Rattle.search.proofs.Found.{found-length, found-at, holds-length, holds-at}
 
@@ -43,7 +43,7 @@ module _ {rows : List ℕ} {w : ℕ} {order₀ trail₀ : List ℕ} {n i : ℕ} 
   abbrev before : List Reached
   before = foundIn n order₀ trail₀
 
-  pub tried-low : i < 128
+  pub tried-low : i < length rows / w
   tried-low = omega (arith, can .before, can .room, found-length order₀ trail₀ n, front-length (visit-front m t w before))
 
   -- the row of the state, s, as the code has read it
@@ -72,9 +72,9 @@ module _ {rows : List ℕ} {w : ℕ} {order₀ trail₀ : List ℕ} {n i : ℕ} 
       next = rw (T .are .holds .are, entry ∙ sym (rows-step rows w small (byte order₀ i) c (can .some) (can .most) l), history-same, add-one)
 
       -- what `note` asks for
-      pub tried-asks : Arrays (foundIn k order trail) k order trail numbers
-          × (((x < 128) × (i < k) × (c < 256)) × (length (add (foundIn k order trail) x (historyAt trail i ++ (c ∷ []))) ≤ 127))
-      tried-asks = (
+      pub tried-asks : length rows / w < length numbers → Arrays (foundIn k order trail) k order trail numbers
+          × (((x < length numbers) × (i < k) × (c < 256)) × (length (add (foundIn k order trail) x (historyAt trail i ++ (c ∷ []))) < length numbers))
+      tried-asks enough = (
         as-found (T .are),
         (
           (omega (arith, entry, small .few, state-entry (small .table) (byte order₀ i) (can .some) (can .most) c l), place, omega (arith, small .narrow)),
@@ -100,33 +100,36 @@ unfolding statesOf
 all-states rows w = refl
 
 -- state 1 is found
-pub searched-begun : (rows : List ℕ) (w : ℕ) (order trail : List ℕ) → 128 ≤ length order → 256 ≤ length trail
-    → SearchTurn rows w 1 0 (set order 0 1) trail (set (set (replicate 128 0) 0 1) 1 1)
+pub searched-begun : (rows : List ℕ) (w : ℕ) (order trail numbers : List ℕ) → SmallTable rows w → EmptyArrays (length rows / w) order trail numbers
+    → SearchTurn rows w 1 0 (set order 0 1) trail (set (set numbers 0 1) 1 1)
 unfolding foundIn
-searched-begun rows w order trail roomOrder roomTrail = record {
+searched-begun rows w order trail numbers small E = record {
   are = rw first (record {
     holds = record { are = first; falls = λ k l. absurd (omega arith) };
-    roomOrder = rw length-set roomOrder;
-    roomTrail = roomTrail;
-    roomNumbers = omega arith;
-    numbered = numbered;
+    few = simp length-set (E .few);
+    roomOrder = simp length-set (E .roomOrder);
+    roomTrail = simp length-set (E .roomTrail);
+    numbered = λ s l. numbered s (simp length-set at l);
   });
   within = omega arith;
   come = come-begun (rowsMachine rows w) 127 (statesOf rows w) (foundIn 1 (set order 0 1) trail) first (all-states rows w);
 }
   where
+    two : 1 < length numbers
+    two = omega (arith, small .table .some, E .enough)
+
     first : foundIn 1 (set order 0 1) trail ≡ startOf (rowsMachine rows w)
     first =
-        let state : byte (set order 0 1) 0 ≡ 1 = getD-set-same order 0 1 0 (omega arith) in
+        let state : byte (set order 0 1) 0 ≡ 1 = getD-set-same order 0 1 0 (omega (arith, two, E .roomOrder)) in
         let history : historyAt trail 0 ≡ [] = trail-start (firstAt trail) (secondAt trail) in
         rw (state, history)
 
-    numbered : (s : ℕ) → s < 128 → byte (set (set (replicate 128 0) 0 1) 1 1) s ≡ numberOf (startOf (rowsMachine rows w)) s
-    numbered zero l = refl
-    numbered (suc zero) l = refl
+    numbered : (s : ℕ) → s < length numbers → byte (set (set numbers 0 1) 1 1) s ≡ numberOf (startOf (rowsMachine rows w)) s
+    numbered zero l = getD-set-other (set numbers 0 1) 1 0 1 0 (λ e. omega arith) ∙ getD-set-same numbers 0 1 0 l
+    numbered (suc zero) l = getD-set-same (set numbers 0 1) 1 1 0 (rw length-set l)
     numbered (suc (suc s)) l =
-        getD-set-other (set (replicate 128 0) 0 1) 1 (suc (suc s)) 1 0 (λ e. omega arith) ∙ getD-set-other (replicate 128 0) 0 (suc (suc s)) 1 0 (λ e. omega arith)
-        ∙ getD-replicate 128 (suc (suc s)) 0 0 l ∙ rw (ne-eqb (suc (suc s)) 1 (λ e. omega arith))
+        getD-set-other (set numbers 0 1) 1 (suc (suc s)) 1 0 (λ e. omega arith) ∙ getD-set-other numbers 0 (suc (suc s)) 1 0 (λ e. omega arith)
+        ∙ ap (λ (x : List ℕ). byte x (suc (suc s))) (E .empty) ∙ getD-replicate (length numbers) (suc (suc s)) 0 0 l ∙ rw (ne-eqb (suc (suc s)) 1 (λ e. omega arith))
 
 module _ (rows : List ℕ) (w : ℕ) (small : SmallTable rows w) {n i : ℕ} {order trail numbers : List ℕ} (S : SearchTurn rows w n i order trail numbers) where
   abbrev found : List Reached
@@ -138,11 +141,10 @@ module _ (rows : List ℕ) (w : ℕ) (small : SmallTable rows w) {n i : ℕ} {or
   pub searched-few : n ≤ 127
   searched-few = omega (arith, small .few, states-few rows w small, front-length front, found-length order trail n)
 
-  pub searched-done : n ≤ i → Holds (statesOf rows w) n order trail
-  searched-done l = record {
-    are = remains-done (rowsMachine rows w) 127 (statesOf rows w) i found (omega (arith, found-length order trail n)) (S .come);
-    falls = S .are .holds .falls;
-  }
+  pub searched-done : n ≤ i → Arrays (statesOf rows w) n order trail numbers
+  searched-done l =
+      subst (λ (L : List Reached). Arrays L n order trail numbers)
+      (remains-done (rowsMachine rows w) 127 (statesOf rows w) i found (omega (arith, found-length order trail n)) (S .come)) (S .are)
 
   module _ (b : i < n) where
     here : getD found i unreached ≡ reachedAt order trail i
@@ -162,7 +164,7 @@ module _ (rows : List ℕ) (w : ℕ) (small : SmallTable rows w) {n i : ℕ} {or
       before = b;
       some = state .0;
       most = state .1;
-      room = omega (arith, small .few, states-few rows w small, front-length (remains-front (rowsMachine rows w) 127 (statesOf rows w) (suc i) (visitedAt rows w order trail n i) come-on));
+      room = omega (arith, states-few rows w small, front-length (remains-front (rowsMachine rows w) 127 (statesOf rows w) (suc i) (visitedAt rows w order trail n i) come-on));
     }
 
     pub searched-turn : {r : ℕ} {order′ trail′ numbers′ : List ℕ} → Arrays (visitedAt rows w order trail n i) r order′ trail′ numbers′

@@ -22,7 +22,7 @@ use Rattle.definitions.proofs.BookSteps.{step-is-entry, entry-past}
 use Rattle.definitions.specs.Rows.{rowsIn, TableIn}
 use Rattle.definitions.proofs.TableBytes.{rows-count, entry-is, bytes-are-table}
 use Rattle.book.proofs.Places.{Column, column-of, entry-at}
-use Rattle.search.specs.Found.{SmallTable, rowsMachine, statesOf, bookStates, Holds}
+use Rattle.search.specs.Found.{SmallTable, rowsMachine, statesOf, bookStates, Arrays}
 use Rattle.search.proofs.Found.{reached-inside, reached-most}
 
 module _ (rows : List ℕ) (w : ℕ) (small : SmallTable rows w) where
@@ -104,7 +104,11 @@ module _ (b : List ℕ) (p : BookPassed b) where
     pub part-rows : SmallTable (take (length b - 12) (drop 12 b)) v
     part-rows = rw (part-is-drop 12 b, e) book-rows
 
-    pub part-states : {n : ℕ} {order trail : List ℕ} → Holds (statesOf (take (length b - 12) (drop 12 b)) v) n order trail → Holds (bookStates b) n order trail
-    part-states {n} {order} {trail} H =
+    pub part-count : length (take (length b - 12) (drop 12 b)) / v ≡ states b
+    part-count = rw (part-is-drop 12 b, e) rows-are
+
+    pub part-states : {n : ℕ} {order trail numbers : List ℕ} → Arrays (statesOf (take (length b - 12) (drop 12 b)) v) n order trail numbers
+        → Arrays (bookStates b) n order trail numbers
+    part-states {n} {order} {trail} {numbers} S =
         let same : statesOf (take (length b - 12) (drop 12 b)) v ≡ bookStates b = rw (part-is-drop 12 b, e) book-states in
-        subst (λ (L : List Reached). Holds L n order trail) same H
+        subst (λ (L : List Reached). Arrays L n order trail numbers) same S

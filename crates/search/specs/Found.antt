@@ -1,8 +1,8 @@
 -- The states of a table that a search finds, each with a history, and the arrays that hold them.
 use mathlib.Core.Path.{_≡_}
 use mathlib.Core.List.{List}
-use Prim.Native.Nat.{ℕ, zero, suc, _/_, _≤_, _<_}
-use lib.ListN.{length}
+use Prim.Native.Nat.{ℕ, zero, suc, _*_, _/_, _≤_, _<_}
+use lib.ListN.{length, replicate}
 use Rattle.automaton.specs.Below.{listBelow}
 use Rattle.automaton.specs.Machine.{Machine}
 use Rattle.automaton.specs.Explore.{Reached, numberIn, visit, reached}
@@ -56,21 +56,29 @@ abbrev pub numberOf : List Reached → ℕ → ℕ
 numberOf found zero = 1
 numberOf found (suc s) = numberIn found (suc s)
 
--- the arrays of a search: there is room for 128 states, and the third has their numbers
+-- the arrays of a search: the third has the numbers of the states below its length, and for as many states there is room in the others
 pub record Arrays (found : List Reached) (n : ℕ) (order trail numbers : List ℕ) : Type 0 where
   pub holds : Holds found n order trail
-  pub roomOrder : 128 ≤ length order
-  pub roomTrail : 256 ≤ length trail
-  pub roomNumbers : 128 ≤ length numbers
-  pub numbered : (s : ℕ) → s < 128 → byte numbers s ≡ numberOf found s
+  pub few : length numbers ≤ 128
+  pub roomOrder : length numbers ≤ length order
+  pub roomTrail : 2 * length numbers ≤ length trail
+  pub numbered : (s : ℕ) → s < length numbers → byte numbers s ≡ numberOf found s
+
+-- the same before a search that finds at most so many states
+pub record EmptyArrays (most : ℕ) (order trail numbers : List ℕ) : Type 0 where
+  pub enough : most < length numbers
+  pub few : length numbers ≤ 128
+  pub roomOrder : length numbers ≤ length order
+  pub roomTrail : 2 * length numbers ≤ length trail
+  pub empty : numbers ≡ replicate (length numbers) 0
 
 -- what is found once the state at place i of n is visited
 abbrev pub visitedAt : List ℕ → ℕ → List ℕ → List ℕ → ℕ → ℕ → List Reached
 visitedAt rows w order trail n i = visit (rowsMachine rows w) (reachedAt order trail i) w (foundIn n order trail)
 
--- it can be visited: it has a row, and there is room for what is found then
+-- it can be visited: it has a row, and at most as many states are found then as there are rows
 pub record CanVisit (rows : List ℕ) (w : ℕ) (order trail : List ℕ) (n i : ℕ) : Type 0 where
   pub before : i < n
   pub some : 1 ≤ byte order i
   pub most : byte order i ≤ length rows / w
-  pub room : length (visitedAt rows w order trail n i) ≤ 127
+  pub room : length (visitedAt rows w order trail n i) ≤ length rows / w

@@ -3,13 +3,13 @@
 // A search that ends early is a loop over `visit` like that of `explore`, with a test of its own.
 ghost use mathlib.Core.Path.{_≡_};
 ghost use mathlib.Core.List.{[], _∷_, _++_};
-ghost use Prim.Native.Nat.{_≤_, _<_};
+ghost use Prim.Native.Nat.{_/_, _≤_, _<_};
 ghost use lib.ListN.{length, set};
 ghost use Rattle.automaton.specs.Explore.{add};
 ghost use Rattle.definitions.specs.Book as Book;
 ghost use Rattle.definitions.specs.Checked.{BookPassed};
 ghost use Rattle.search.specs.Trail.{historyAt};
-ghost use Rattle.search.specs.Found.{SmallTable, statesOf, foundIn, Holds, Arrays, visitedAt, CanVisit, bookStates};
+ghost use Rattle.search.specs.Found.{SmallTable, statesOf, foundIn, Arrays, EmptyArrays, visitedAt, CanVisit, bookStates};
 use crate::trail::put;
 use automaton::wide;
 
@@ -34,8 +34,8 @@ fn note(
     code: usize,
 ) -> usize
     requires { ⌜ Arrays (foundIn n (now order) (now trail)) n (now order) (now trail) (now numbers) ⌝ }
-    requires { ⌜ (state < 128) × (from < n) × (code < 256) ⌝ }
-    requires { ⌜ length (add (foundIn n (now order) (now trail)) state (historyAt (now trail) from ++ (code ∷ []))) ≤ 127 ⌝ }
+    requires { ⌜ (state < length (now numbers)) × (from < n) × (code < 256) ⌝ }
+    requires { ⌜ length (add (foundIn n (now order) (now trail)) state (historyAt (now trail) from ++ (code ∷ []))) < length (now numbers) ⌝ }
     ensures { λ r. ⌜ Arrays (add (foundIn n (now (order .entry)) (now (trail .entry))) state (historyAt (now (trail .entry)) from ++ (code ∷ [])))
         r (now (order .exit)) (now (trail .exit)) (now (numbers .exit)) ⌝ }
 {
@@ -60,7 +60,7 @@ fn visit(
     i: usize,
 ) -> usize
     requires { ⌜ SmallTable (now rows) width × CanVisit (now rows) width (now order) (now trail) n i ⌝ }
-    requires { ⌜ Arrays (foundIn n (now order) (now trail)) n (now order) (now trail) (now numbers) ⌝ }
+    requires { ⌜ Arrays (foundIn n (now order) (now trail)) n (now order) (now trail) (now numbers) × (length (now rows) / width < length (now numbers)) ⌝ }
     ensures { λ r. ⌜ Arrays (visitedAt (now (rows .entry)) width (now (order .entry)) (now (trail .entry)) n i)
         r (now (order .exit)) (now (trail .exit)) (now (numbers .exit)) ⌝ }
 {
@@ -75,26 +75,38 @@ fn visit(
 }
 
 // The states that histories reach from state 1 in a table, given as its rows of `width` entries one after another: in the order of their earliest history,
-// each with that history. Returns how many there are.
-pub fn explore(rows: &[u8], width: usize, order: &mut [u8], trail: &mut [u8]) -> usize
-    requires { ⌜ SmallTable (now rows) width × (128 ≤ length (now order)) × (256 ≤ length (now trail)) ⌝ }
-    ensures { λ r. ⌜ Holds (statesOf (now (rows .entry)) width) r (now (order .exit)) (now (trail .exit)) ⌝ }
+// each with that history, and with the number of each. Returns how many there are.
+pub fn explore(
+    rows: &[u8],
+    width: usize,
+    order: &mut [u8],
+    trail: &mut [u8],
+    numbers: &mut [u8],
+) -> usize
+    requires { ⌜ SmallTable (now rows) width × EmptyArrays (length (now rows) / width) (now order) (now trail) (now numbers) ⌝ }
+    ensures { λ r. ⌜ Arrays (statesOf (now (rows .entry)) width) r (now (order .exit)) (now (trail .exit)) (now (numbers .exit)) ⌝ }
 {
-    let mut numbers = [0u8; 128];
-    begin(order, &mut numbers);
+    begin(order, numbers);
     let mut n = 1;
     let mut i = 0;
     while i < n {
-        n = visit(rows, width, order, trail, &mut numbers, n, i);
+        n = visit(rows, width, order, trail, numbers, n, i);
         i += 1;
     }
     n
 }
 
-// The states of a book that passes the checks, in the order of their earliest history, each with that history. Returns how many there are.
-pub fn explore_book(book: &[u8], width: usize, order: &mut [u8], trail: &mut [u8]) -> usize
-    requires { ⌜ BookPassed (now book) × (width ≡ Book.width (now book)) × (128 ≤ length (now order)) × (256 ≤ length (now trail)) ⌝ }
-    ensures { λ r. ⌜ Holds (bookStates (now (book .entry))) r (now (order .exit)) (now (trail .exit)) ⌝ }
+// The states of a book that passes the checks, in the order of their earliest history, each with that history, and with the number of each. Returns how many
+// there are.
+pub fn explore_book(
+    book: &[u8],
+    width: usize,
+    order: &mut [u8],
+    trail: &mut [u8],
+    numbers: &mut [u8],
+) -> usize
+    requires { ⌜ BookPassed (now book) × (width ≡ Book.width (now book)) × EmptyArrays (Book.states (now book)) (now order) (now trail) (now numbers) ⌝ }
+    ensures { λ r. ⌜ Arrays (bookStates (now (book .entry))) r (now (order .exit)) (now (trail .exit)) (now (numbers .exit)) ⌝ }
 {
-    explore(&book[12..], width, order, trail)
+    explore(&book[12..], width, order, trail, numbers)
 }

@@ -2,7 +2,7 @@
 ghost use mathlib.Core.Path.{_≡_};
 ghost use mathlib.Core.Bool.{false};
 ghost use mathlib.Core.Option.{none};
-ghost use Prim.Native.Nat.{ℕ, _≤_, _<_};
+ghost use Prim.Native.Nat.{ℕ, _*_, _≤_, _<_};
 ghost use lib.ListN.{length};
 ghost use Rattle.automaton.specs.Below.{lowestBelow};
 ghost use Rattle.definitions.specs.Answer.{written, historyBytes};
@@ -69,7 +69,7 @@ pub fn find(
     buffer: &mut [u8],
 ) -> Finding
     requires { ⌜ BookPassed (now book) × (requests ≡ Book.requests (now book)) × Holds (bookStates (now book)) n (now order) (now trail) ⌝ }
-    requires { ⌜ (128 ≤ length (now order)) × (256 ≤ length (now trail)) × (128 ≤ length (now buffer)) ⌝ }
+    requires { ⌜ (Book.states (now book) ≤ length (now order)) × (2 * Book.states (now book) ≤ length (now trail)) × (128 ≤ length (now buffer)) ⌝ }
     ensures { λ r. ⌜ foundOf r (now (buffer .exit)) ≡ soughtFinding sought (now (book .entry)) ⌝ }
     ensures { λ _. ⌜ now (buffer .exit) ≡ written (historyBytes (foundHistory (soughtFinding sought (now (book .entry))))) (now (buffer .entry)) ⌝ }
 {
@@ -125,7 +125,7 @@ pub fn find_blocked(
 ) -> Blocked
     requires { ⌜ BookPassed (now book) × (requests ≡ Book.requests (now book)) × Holds (bookStates (now book)) n (now order) (now trail) ⌝ }
     requires { ⌜ (isFound missing ≡ false → soughtFinding Missing (now book) ≡ none) ⌝ }
-    requires { ⌜ (128 ≤ length (now order)) × (256 ≤ length (now trail)) × (128 ≤ length (now buffer)) ⌝ }
+    requires { ⌜ (Book.states (now book) ≤ length (now order)) × (2 * Book.states (now book) ≤ length (now trail)) × (128 ≤ length (now buffer)) ⌝ }
     ensures { λ r. ⌜ blockedOf r (now (buffer .exit)) ≡ blocked (now (book .entry)) ⌝ }
     ensures { λ _. ⌜ now (buffer .exit) ≡ written (historyBytes (blocked (now (book .entry)))) (now (buffer .entry)) ⌝ }
 {

@@ -69,9 +69,11 @@ fn judge(book: &[u8], conflict: &mut [u8], missing: &mut [u8], blocked: &mut [u8
         ≡ verdictBuffers (now (book .entry)) (now (conflict .entry)) (now (missing .entry)) (now (blocked .entry)) ⌝ }
 {
     let q = book::requests(book);
+    let w = width_from(book, q);
     let mut order = [0u8; 128];
     let mut trail = [0u8; 256];
-    let n = explore_book(book, width_from(book, q), &mut order, &mut trail);
+    let mut numbers = [0u8; 128];
+    let n = explore_book(book, w, &mut order, &mut trail, &mut numbers);
     let first = find(book, q, &order, &trail, n, Sought::Conflict, conflict);
     let second = find(book, q, &order, &trail, n, Sought::Missing, missing);
     let third = find_blocked(book, q, &order, &trail, n, second, blocked);

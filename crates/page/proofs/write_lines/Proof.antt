@@ -10,28 +10,25 @@ use Rattle.page.proofs.write_lines.Statement.{statement}
 use Rattle.page.proofs.write_lines.Tie as tie
 
 abbrev Inv-loop : tie.InvT-loop
-Inv-loop book width depths page₀ n q i₀ page i = LinesWritten book page₀ n i page
+Inv-loop book width requests depths page₀ n i₀ page i = LinesWritten book page₀ n i page
 
 abbrev μ-loop : tie.MeasureT-loop
-μ-loop book width depths page₀ n q i₀ page i = n - i
+μ-loop book width requests depths page₀ n i₀ page i = n - i
 
 -- the buffer keeps its length, which is enough for the lines
-size : (c : tie.At-loop Inv-loop μ-loop) → length (c .loop .page) ≡ length (c .before .before .before .before .before .before .args .page .now)
+size : (c : tie.At-loop Inv-loop μ-loop) → length (c .loop .page) ≡ length (c .before .before .before .before .before .args .page .now)
 size c =
-    let s = c .before .before .before .before .before .before in
-    lines-length _ _ (s .pre .0 .0) (s .pre .0 .2) _ (c .before .before .states .ensures) _ _ (c .loop .inv)
+    let s = c .before .before .before .before .before in
+    lines-length _ _ (s .pre .0 .0) (s .pre .1 .2) _ (c .before .states .ensures) _ _ (c .loop .inv)
 
 room : (c : tie.In-loop Inv-loop μ-loop) → c .before .loop .i * 73 + 73 ≤ length (c .before .loop .page)
 room c =
-    let s = c .before .before .before .before .before .before .before in
-    let most = few (s .args .book .now) (s .args .page .now) (s .pre .0 .0) (s .pre .0 .2) _ (c .before .before .before .states .ensures) in
-    omega (arith, size (c .before), most, s .pre .0 .2, c .loop-test .taken)
+    let s = c .before .before .before .before .before .before in
+    let most = few (s .args .book .now) (s .args .page .now) (s .pre .0 .0) (s .pre .1 .2) _ (c .before .before .states .ensures) in
+    omega (arith, size (c .before), most, s .pre .1 .2, c .loop-test .taken)
 
 states-requires : tie.Need-states-requires Inv-loop μ-loop
 states-requires c κs = search needs
-
-requests-requires : tie.Need-requests-requires Inv-loop μ-loop
-requests-requires c κs = search needs
 
 loop-holds : tie.Need-loop-holds Inv-loop μ-loop
 loop-holds c = search needs
@@ -62,10 +59,10 @@ add-write-line c = search needs
 
 write-line-requires : tie.Need-write-line-requires Inv-loop μ-loop
 write-line-requires c κs =
-    let s = c .before .before .before .before .before .before .before .before .before .before in
-    let n = c .before .before .before .before .before .before .states .ensures in
+    let s = c .before .before .before .before .before .before .before .before .before in
+    let n = c .before .before .before .before .before .states .ensures in
     let r = room (c .before .before .before) in
-    ((s .pre .0 .0, s .pre .0 .1, c .before .before .before .before .before .requests .ensures), (omega arith, omega (arith, n, c .before .before .before .loop-test .taken), simp part-is-drop (rw length-drop (omega arith))))
+    (s .pre .0, (omega arith, omega (arith, n, c .before .before .before .loop-test .taken), simp part-is-drop (rw length-drop (omega arith))))
 
 add-i : tie.Need-add-i Inv-loop μ-loop
 add-i c = search needs
@@ -75,10 +72,10 @@ loop-less c = search needs
 
 loop-again : tie.Need-loop-again Inv-loop μ-loop
 loop-again c =
-    let s = c .before .before .before .before .before .before .before .before .before .before .before .before .before in
+    let s = c .before .before .before .before .before .before .before .before .before .before .before .before in
     let l = c .before .before .before .before .before .before .before .loop in
     let w = c .before .before .write-line in
-    lines-turn _ _ (s .pre .0 .0) (s .pre .0 .2) _ (c .before .before .before .before .before .before .before .before .before .states .ensures) (l .i) (l .page) (l .inv) (c .before .before .before .before .before .before .loop-test .taken) (s .args .depths .now) _ _ (s .pre .1 .1) (c .before .before .before .before .wide .ensures .0) (simp part-is-drop at (w .ensures))
+    lines-turn _ _ (s .pre .0 .0) (s .pre .1 .2) _ (c .before .before .before .before .before .before .before .before .states .ensures) (l .i) (l .page) (l .inv) (c .before .before .before .before .before .before .loop-test .taken) (s .args .depths .now) _ _ (s .pre .1 .1) (c .before .before .before .before .wide .ensures .0) (simp part-is-drop at (w .ensures))
 
 mul-result : tie.Need-mul-result Inv-loop μ-loop
 mul-result c = search needs
@@ -88,9 +85,9 @@ same-length c = size (c .before)
 
 returns : tie.Need-returns Inv-loop μ-loop
 returns c =
-    let s = c .before .before .before .before .before .before .before in
-    let n = c .before .before .before .states .ensures in
-    (ap (λ (k : ℕ). k * 73) n, lines-done _ _ (s .pre .0 .0) (s .pre .0 .2) _ n _ _ (c .before .loop .inv) (omega arith))
+    let s = c .before .before .before .before .before .before in
+    let n = c .before .before .states .ensures in
+    (ap (λ (k : ℕ). k * 73) n, lines-done _ _ (s .pre .0 .0) (s .pre .1 .2) _ n _ _ (c .before .loop .inv) (omega arith))
 
 pub write-lines-spec : {M : Type 1} → statement M
 write-lines-spec =
@@ -99,7 +96,6 @@ write-lines-spec =
     Inv-loop
     μ-loop
     states-requires
-    requests-requires
     loop-holds
     mul-at
     add-wide

@@ -1,4 +1,5 @@
 -- `judge` meets its contract: a book that no row refuses is explored once, and the three findings are those over the states found.
+use mathlib.Core.Path.{refl}
 use native.Mathlib.Omega.{arith}
 use denote.Ref.{now}
 use Rattle.definitions.specs.Checked.{BookPassed}
@@ -16,7 +17,7 @@ pass c = book-passed _ .0 (rows c .book)
 
 -- from the search back to the start
 abbrev start : tie.After-explore-book → tie.Start
-start c = c .before .before .before .before .before .before .before .before .before
+start c = c .before .before .before .before .before .before .before .before .before .before
 
 requests-requires : tie.Need-requests-requires
 requests-requires c κs = let p = pass (c .before .before .before .before) in (p .long, p .layout .header .fieldsMost)
@@ -30,8 +31,13 @@ slice-aggregate-explore-book c = search needs
 slice-aggregate-explore-book-2 : tie.Need-slice-aggregate-explore-book-2
 slice-aggregate-explore-book-2 c = search needs
 
+slice-aggregate-explore-book-3 : tie.Need-slice-aggregate-explore-book-3
+slice-aggregate-explore-book-3 c = search needs
+
 explore-book-requires : tie.Need-explore-book-requires
-explore-book-requires c κs = (pass (c .before .before .before .before .before .before .before .before), c .before .before .width-from .ensures, search needs, search needs)
+explore-book-requires c κs =
+    let p = pass (c .before .before .before .before .before .before .before .before .before) in
+    (p, c .before .before .before .width-from .ensures, record { enough = omega (arith, p .layout .header .statesMost); few = search needs; roomOrder = search needs; roomTrail = search needs; empty = refl })
 
 slice-aggregate-find : tie.Need-slice-aggregate-find
 slice-aggregate-find c = search needs
@@ -40,7 +46,9 @@ slice-aggregate-find-2 : tie.Need-slice-aggregate-find-2
 slice-aggregate-find-2 c = search needs
 
 find-requires : tie.Need-find-requires
-find-requires c κs = let e = c .before .before .before .before .before in ((pass (start e), e .before .before .before .before .requests .ensures, e .explore-book .ensures), (search needs, search needs, rows (start e) .longConflict))
+find-requires c κs =
+    let e = c .before .before .before .before .before .before in
+    ((pass (start e), e .before .before .before .before .before .requests .ensures, e .explore-book .ensures .holds), (omega (arith, pass (start e) .layout .header .statesMost), omega (arith, pass (start e) .layout .header .statesMost), rows (start e) .longConflict))
 
 slice-aggregate-find-3 : tie.Need-slice-aggregate-find-3
 slice-aggregate-find-3 c = search needs
@@ -49,7 +57,9 @@ slice-aggregate-find-4 : tie.Need-slice-aggregate-find-4
 slice-aggregate-find-4 c = search needs
 
 find-requires-2 : tie.Need-find-requires-2
-find-requires-2 c κs = let e = c .before .before .before .before .before .before .before .before .before .before .before in ((pass (start e), e .before .before .before .before .requests .ensures, e .explore-book .ensures), (search needs, search needs, rows (start e) .longMissing))
+find-requires-2 c κs =
+    let e = c .before .before .before .before .before .before .before .before .before .before .before .before in
+    ((pass (start e), e .before .before .before .before .before .requests .ensures, e .explore-book .ensures .holds), (omega (arith, pass (start e) .layout .header .statesMost), omega (arith, pass (start e) .layout .header .statesMost), rows (start e) .longMissing))
 
 slice-aggregate-find-blocked : tie.Need-slice-aggregate-find-blocked
 slice-aggregate-find-blocked c = search needs
@@ -58,7 +68,10 @@ slice-aggregate-find-blocked-2 : tie.Need-slice-aggregate-find-blocked-2
 slice-aggregate-find-blocked-2 c = search needs
 
 find-blocked-requires : tie.Need-find-blocked-requires
-find-blocked-requires c κs = let f = c .before .before .before .before .before .find2 in let e = c .before .before .before .before .before .before .before .before .before .before .before .before .before .before .before .before .before in ((pass (start e), e .before .before .before .before .requests .ensures, e .explore-book .ensures), (not-found (f .result) (f .last .1 .1 .1 .1 .1 .1 .0) _ (f .ensures .0), (search needs, search needs, rows (start e) .longBlocked)))
+find-blocked-requires c κs =
+    let f = c .before .before .before .before .before .find2 in
+    let e = c .before .before .before .before .before .before .before .before .before .before .before .before .before .before .before .before .before .before in
+    ((pass (start e), e .before .before .before .before .before .requests .ensures, e .explore-book .ensures .holds), (not-found (f .result) (f .last .1 .1 .1 .1 .1 .1 .0) _ (f .ensures .0), (omega (arith, pass (start e) .layout .header .statesMost), omega (arith, pass (start e) .layout .header .statesMost), rows (start e) .longBlocked)))
 
 same-length : tie.Need-same-length
 same-length c = search needs
@@ -74,7 +87,7 @@ returns c =
     let x = c .before .before .before .before .before .before .before .before .before .before .before .before .before .before .find .ensures in
     let y = c .before .before .before .before .before .before .before .before .find2 .ensures in
     let z = c .before .before .find-blocked .ensures in
-    (answer-are _ _ _ _ (x .0) (y .0) (z .0), buffers-are _ _ _ _ (start (c .before .before .before .before .before .before .before .before .before .before .before .before .before .before .before .before .before .before .before .before) .pre) _ _ _ (x .1) (y .1) (z .1))
+    (answer-are _ _ _ _ (x .0) (y .0) (z .0), buffers-are _ _ _ _ (c .before .before .before .before .before .before .before .before .before .before .before .before .before .before .before .before .before .before .before .before .before .before .before .before .before .before .before .before .before .before .before .pre) _ _ _ (x .1) (y .1) (z .1))
 
 pub judge-spec : {M : Type 1} → statement M
 judge-spec =
@@ -84,6 +97,7 @@ judge-spec =
     width-from-requires
     slice-aggregate-explore-book
     slice-aggregate-explore-book-2
+    slice-aggregate-explore-book-3
     explore-book-requires
     slice-aggregate-find
     slice-aggregate-find-2

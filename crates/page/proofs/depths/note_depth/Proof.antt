@@ -1,6 +1,7 @@
--- `note_depth` meets its contract: the state lies one deeper than the one that it was found from.
+-- `note_depth` meets its contract: each place and each state is read as the array holds it.
+use mathlib.Core.Path.{_≡_, sym, ap, _∙_}
 use native.Mathlib.Omega.{arith}
-use Rattle.page.proofs.NotedDepths.{state-inside, parent-inside, depth-inside, depth-fits, noted-next}
+use Rattle.definitions.specs.Bytes.{byte}
 use borrow.Author.Needs.{needs}
 use Rattle.page.proofs.depths.note_depth.Statement.{statement}
 use Rattle.page.proofs.depths.note_depth.Tie as tie
@@ -15,22 +16,18 @@ wide-requires : tie.Need-wide-requires
 wide-requires c κs = search needs
 
 shared-slice-read-wide-2 : tie.Need-shared-slice-read-wide-2
-shared-slice-read-wide-2 c =
-    let s = c .before .before .before .before .before .before in
-    parent-inside _ _ _ (s .pre .0) (s .pre .1) _ (c .before .wide .ensures .0)
+shared-slice-read-wide-2 c = search needs
 
 wide-requires-2 : tie.Need-wide-requires-2
 wide-requires-2 c κs = search needs
 
 slice-read-before : tie.Need-slice-read-before
-slice-read-before c =
-    let s = c .before .before .before .before .before .before .before .before in
-    depth-inside _ _ _ (s .pre .0) (s .pre .1) _ (c .before .before .before .wide .ensures .0) _ (s .pre .2) _ (c .before .wide2 .ensures .0)
+slice-read-before c = omega (arith, c .before .wide2 .ensures .0 ∙ ap (byte (c .before .before .before .before .before .before .before .before .args .order .now)) (c .before .before .before .wide .ensures .0), c .before .before .before .before .before .before .before .before .pre .parentState)
 
 add-depths : tie.Need-add-depths
 add-depths c =
     let s = c .before .before .before .before .before .before .before .before in
-    omega (arith, depth-fits _ _ _ (s .pre .0) (s .pre .1) _ (c .before .before .before .wide .ensures .0) _ (s .pre .2) _ (c .before .wide2 .ensures .0))
+    omega (arith, ap (byte (s .args .depths .now)) (c .before .wide2 .ensures .0 ∙ ap (byte (c .before .before .before .before .before .before .before .before .args .order .now)) (c .before .before .before .wide .ensures .0)), s .pre .fits)
 
 shared-slice-read-wide-3 : tie.Need-shared-slice-read-wide-3
 shared-slice-read-wide-3 c = search needs
@@ -39,17 +36,13 @@ wide-requires-3 : tie.Need-wide-requires-3
 wide-requires-3 c κs = search needs
 
 slice-write-depths : tie.Need-slice-write-depths
-slice-write-depths c =
-    let s = c .before .before .before .before .before .before .before .before .before .before in
-    state-inside _ _ _ (s .pre .0) _ (s .pre .2) _ (c .wide3 .ensures .0)
+slice-write-depths c = search needs
 
 same-length : tie.Need-same-length
 same-length c = search needs
 
 returns : tie.Need-returns
-returns c =
-    let s = c .before .before .before .before .before .before .before .before .before .before in
-    noted-next _ _ _ (s .pre .0) (s .pre .1) _ (c .before .before .before .before .before .wide .ensures .0) _ (s .pre .2) _ (c .before .before .before .wide2 .ensures .0) _ (c .wide3 .ensures .0)
+returns c = rw (c .wide3 .ensures .0, c .before .before .before .wide2 .ensures .0 ∙ ap (byte (c .before .before .before .before .before .before .before .before .before .before .args .order .now)) (c .before .before .before .before .before .wide .ensures .0))
 
 pub note-depth-spec : {M : Type 1} → statement M
 note-depth-spec =

@@ -1,16 +1,16 @@
 -- `note_depths` meets its contract: the depths of the first k states are noted.
-use mathlib.Core.Path.{_≡_, refl, _∙_}
+use mathlib.Core.Path.{_≡_, refl, sym, _∙_}
 use Prim.Native.Nat.{_-_, _≤_}
 use native.Mathlib.Omega.{arith}
 use lib.ListN.{length, length-set}
-use Rattle.page.specs.Depths.{Noted}
-use Rattle.page.proofs.NotedDepths.{places-fewer, noted-first}
+use Rattle.page.specs.Depths.{Places, Noted}
+use Rattle.page.proofs.NotedDepths.{places-same, noted-first, can-note, noted-next}
 use borrow.Author.Needs.{needs}
 use Rattle.page.proofs.depths.note_depths.Statement.{statement}
 use Rattle.page.proofs.depths.note_depths.Tie as tie
 
 abbrev Inv-loop : tie.InvT-loop
-Inv-loop order trail n depths₀ k₀ depths k = (1 ≤ k) × (k ≤ n) × (length depths ≡ length depths₀) × Noted order trail k depths
+Inv-loop order trail n depths₀ k₀ depths k = (1 ≤ k) × (k ≤ n) × (length depths ≡ length depths₀) × Noted order trail n k depths
 
 abbrev μ-loop : tie.MeasureT-loop
 μ-loop order trail n depths₀ k₀ depths k = n - k
@@ -24,17 +24,17 @@ wide-requires c κs = search needs
 slice-write-depths : tie.Need-slice-write-depths Inv-loop μ-loop
 slice-write-depths c =
     let p = c .before .before .before .before .before .pre in
-    noted-first _ _ _ (p .1) (p .0) _ (p .2) _ (c .wide .ensures .0) .0
+    noted-first _ _ _ _ (p .0) (p .1) (p .2) _ (c .wide .ensures .0) .0
 
 loop-holds : tie.Need-loop-holds Inv-loop μ-loop
 loop-holds c =
     let p = c .before .before .before .before .before .pre in
-    (omega arith, p .1, refl, noted-first _ _ _ (p .1) (p .0) _ (p .2) _ (c .wide .ensures .0) .1)
+    (omega arith, p .1, refl, noted-first _ _ _ _ (p .0) (p .1) (p .2) _ (c .wide .ensures .0) .1)
 
 note-depth-requires : tie.Need-note-depth-requires Inv-loop μ-loop
 note-depth-requires c κs =
     let l = c .before .before .loop in
-    (places-fewer _ _ _ _ (omega arith) (c .before .before .before .before .before .before .before .before .pre .0), l .inv .0, l .inv .3)
+    can-note _ _ _ _ (places-same (sym (simp length-set at (l .inv .2))) (c .before .before .before .before .before .before .before .before .pre .0)) (l .k) (l .inv .0) (c .before .loop-test .taken) (l .inv .3)
 
 add-k : tie.Need-add-k Inv-loop μ-loop
 add-k c = search needs
@@ -44,7 +44,9 @@ loop-less c = search needs
 
 loop-again : tie.Need-loop-again Inv-loop μ-loop
 loop-again c =
-    (omega arith, omega arith, omega arith, c .before .before .note-depth .ensures)
+    let l = c .before .before .before .before .before .loop in
+    let next = noted-next _ _ _ _ (places-same (sym (simp length-set at (l .inv .2))) (c .before .before .before .before .before .before .before .before .before .before .before .pre .0)) (l .k) (l .inv .0) (c .before .before .before .before .loop-test .taken) (l .inv .3) (c .before .before .note-depth .ensures) in
+    (omega arith, omega arith, omega arith, next)
 
 same-length : tie.Need-same-length Inv-loop μ-loop
 same-length c = simp length-set at (c .before .loop .inv .2)
@@ -52,7 +54,7 @@ same-length c = simp length-set at (c .before .loop .inv .2)
 returns : tie.Need-returns Inv-loop μ-loop
 returns c =
     let e : c .before .loop .k ≡ c .before .before .before .before .before .before .before .args .n = omega arith in
-    rw (← e) (c .before .loop .inv .3)
+    rw e at (c .before .loop .inv .3)
 
 pub note-depths-spec : {M : Type 1} → statement M
 note-depths-spec =

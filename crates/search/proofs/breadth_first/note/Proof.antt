@@ -1,14 +1,16 @@
 -- `note` meets its contract: a state that has a number changes nothing, and a new one is stored at the next place.
-use Prim.Native.Nat.{_<_}
+use Prim.Native.Nat.{_+_, _≤_, _<_}
 use native.Mathlib.Omega.{arith}
+use denote.Ref.{now}
+use lib.ListN.{length}
 use borrow.Author.Needs.{needs}
 use Rattle.search.proofs.Found.{noted-known, noted-room, noted-new}
 use Rattle.search.proofs.breadth_first.note.Statement.{statement}
 use Rattle.search.proofs.breadth_first.note.Tie as tie
 
 -- a new state finds a place
-room : (c : tie.Else1) → c .before .before .before .before .before .args .n < 127
-room c = let s = c .before .before .before .before .before in noted-room (s .pre .0) _ _ _ (s .pre .1 .0 .0) (s .pre .1 .0 .1) (c .if1 .left) (s .pre .1 .1)
+room : (c : tie.Else1) → (c .before .before .before .before .before .args .n + 1 < length (now (c .before .before .before .before .before .args .numbers))) × (length (now (c .before .before .before .before .before .args .numbers)) ≤ 128)
+room c = let s = c .before .before .before .before .before in (noted-room (s .pre .0) _ _ _ (s .pre .1 .0 .0) (s .pre .1 .0 .1) (c .if1 .left) (s .pre .1 .1), s .pre .0 .few)
 
 slice-read-if1 : tie.Need-slice-read-if1
 slice-read-if1 c = search needs

@@ -22,7 +22,7 @@ row : (c : tie.After-wide Inv-loop μ-loop) → (c .wide .result - 1) * c .befor
 row c = let s = c .before .before .before .before .before .before in tried-row (s .pre .0 .0) (s .pre .0 .1) (c .wide .result) (c .wide .ensures .0)
 
 slice-read-wide : tie.Need-slice-read-wide Inv-loop μ-loop
-slice-read-wide c = let s = c .before .before .before .before .before in omega (arith, tried-low (s .pre .0 .0) (s .pre .0 .1), s .pre .1 .roomOrder)
+slice-read-wide c = let s = c .before .before .before .before .before in omega (arith, tried-low (s .pre .0 .0) (s .pre .0 .1), s .pre .1 .1, s .pre .1 .0 .roomOrder)
 
 wide-requires : tie.Need-wide-requires Inv-loop μ-loop
 wide-requires c κs = search needs
@@ -34,7 +34,7 @@ mul-row : tie.Need-mul-row Inv-loop μ-loop
 mul-row c = omega (arith, row c)
 
 loop-holds : tie.Need-loop-holds Inv-loop μ-loop
-loop-holds c = (tried-begun _ _ _ _ (c .before .before .before .before .before .before .pre .1), refl, refl, refl)
+loop-holds c = (tried-begun _ _ _ _ (c .before .before .before .before .before .before .pre .1 .0), refl, refl, refl)
 
 add-wide : tie.Need-add-wide Inv-loop μ-loop
 add-wide c = omega (arith, row (c .before .before .before .before .before))
@@ -49,7 +49,7 @@ note-requires : tie.Need-note-requires Inv-loop μ-loop
 note-requires c κs =
     let s = c .before .before .before .before .before .before .before .before .before .before .before .before .before in
     let w = c .before .before .before .before .before .before .before .wide in
-    tried-asks (s .pre .0 .0) (s .pre .0 .1) (c .before .before .before .before .before .before .loop .inv .0) (c .before .before .before .before .before .loop-test .taken) (w .result) (w .ensures .0) _ (c .wide2 .ensures .0)
+    tried-asks (s .pre .0 .0) (s .pre .0 .1) (c .before .before .before .before .before .before .loop .inv .0) (c .before .before .before .before .before .loop-test .taken) (w .result) (w .ensures .0) _ (c .wide2 .ensures .0) (omega (arith, s .pre .1 .1, c .before .before .before .before .before .before .loop .inv .3))
 
 add-c : tie.Need-add-c Inv-loop μ-loop
 add-c c = search needs

@@ -1,7 +1,7 @@
 -- `find` meets its contract: the first place with a request that is sought, its lowest such request and its history.
 use native.Mathlib.Omega.{arith}
 use denote.Ref.{now}
-use Rattle.search.proofs.BookSearch.{book-few, book-inside, book-trail}
+use Rattle.search.proofs.BookSearch.{book-most, book-inside, book-trail}
 use Rattle.verdict.proofs.RequestFindings.{says-none, says-found}
 use borrow.Author.Needs.{needs}
 use Rattle.verdict.proofs.finding.find.Statement.{statement}
@@ -10,7 +10,7 @@ use Rattle.verdict.proofs.finding.find.Tie as tie
 first-with-requires : tie.Need-first-with-requires
 first-with-requires c κs =
     let p = c .before .before .before .before .pre in
-    (p .0 .0, p .0 .1, omega (arith, book-few _ (p .0 .2) (p .0 .0), p .1 .0), book-inside _ (p .0 .2) (p .0 .0))
+    (p .0 .0, p .0 .1, omega (arith, book-most _ (p .0 .2) (p .0 .0), p .1 .0), book-inside _ (p .0 .2) (p .0 .0))
 
 returns : tie.Need-returns
 returns c =

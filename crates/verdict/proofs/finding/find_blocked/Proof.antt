@@ -3,7 +3,7 @@ use mathlib.Core.Path.{sym, _∙_}
 use native.Mathlib.Omega.{arith}
 use denote.Ref.{now}
 use borrow.Author.Tests.{not-true}
-use Rattle.search.proofs.BookSearch.{book-few, book-inside, book-trail}
+use Rattle.search.proofs.BookSearch.{book-most, book-inside, book-trail}
 use Rattle.verdict.proofs.BlockedStates.{tells-answered, tells-none, tells-blocked}
 use borrow.Author.Needs.{needs}
 use Rattle.verdict.proofs.finding.find_blocked.Statement.{statement}
@@ -29,7 +29,7 @@ slice-aggregate-first-unmarked c = search needs
 first-unmarked-requires : tie.Need-first-unmarked-requires
 first-unmarked-requires c κs =
     let s = c .before .before .before .before .before .before .before .before .before .before in
-    let few = book-few _ (s .pre .0 .2) (s .pre .0 .0) in
+    let few = book-most _ (s .pre .0 .2) (s .pre .0 .0) in
     (omega (arith, few, s .pre .1 .1 .0), λ k l. omega (arith, book-inside _ (s .pre .0 .2) (s .pre .0 .0) k l, s .pre .0 .0 .layout .header .statesMost, c .before .before .mark .kept))
 
 returns-2 : tie.Need-returns-2
