@@ -2,14 +2,14 @@
 use mathlib.Core.Path.{_≡_, refl, sym, ap, _∙_}
 use mathlib.Core.Bool.{Bool}
 use mathlib.Core.Logic.{_⊎_, inl, inr}
-use mathlib.Core.List.{List}
+use mathlib.Core.List.{List, _++_}
 use mathlib.Core.Option.{none, some}
 use Prim.Native.Nat.{ℕ, zero, suc, _+_, _*_, _≤_, _<_}
 use native.Mathlib.Decide.{decLt}
 use native.Mathlib.Numerals.{add-one}
 use native.Mathlib.Omega.{arith}
 use lib.Dec.{eqb}
-use lib.ListN.{length, set, length-set}
+use lib.ListN.{length, set, replicate, length-set, length-replicate, List·getD-append}
 use lib.Seq.{getD-set-same, getD-set-other}
 use borrow.Author.Tests.{eqb-true, eqb-false}
 use Rattle.automaton.specs.Below.{lowestBelow}
@@ -22,7 +22,7 @@ use Rattle.definitions.specs.Book.{states}
 use Rattle.definitions.specs.Checked.{BookPassed}
 use Rattle.definitions.specs.Verdict.{statesReached}
 use Rattle.search.specs.Trail.{firstAt, historyAt}
-use Rattle.search.specs.Found.{bookStates, Holds, Arrays}
+use Rattle.search.specs.Found.{bookStates, Holds, Arrays, EmptyArrays}
 use Rattle.search.proofs.Found.{holds-length, holds-at}
 use Rattle.search.proofs.Trails.{history-empty, parent-low, history-short, step-length}
 use Rattle.search.proofs.FirstFound.{first-none, first-some}
@@ -77,6 +77,19 @@ module _ (order trail : List ℕ) (n : ℕ) (depths : List ℕ) (P : Places orde
 pub places-same : {order trail : List ℕ} {n r s : ℕ} → r ≡ s → Places order trail n r → Places order trail n s
 places-same {order} {trail} {n} e P = rw (← e) P
 
+-- ---- room for a search
+pub empty-arrays : (most size : ℕ) (order trail depths : List ℕ) → depths ≡ replicate size 0 → most < size → size ≤ 128 → size ≤ length order → 2 * size ≤ length trail
+    → EmptyArrays most order trail depths
+empty-arrays most size order trail depths e enough few o t =
+    let long : length depths ≡ size = ap length e ∙ length-replicate size 0 in
+    record {
+      enough = omega arith;
+      few = omega arith;
+      roomOrder = omega arith;
+      roomTrail = omega arith;
+      empty = e ∙ ap (λ (n : ℕ). replicate n 0) (sym long);
+    }
+
 -- ---- what a search of a book leaves
 module _ (b : List ℕ) {n : ℕ} {order trail numbers : List ℕ} (A : Arrays (bookStates b) n order trail numbers) (ok : BookPassed b) (enough : states b < length numbers) where
   pub book-places : Places order trail n (length numbers)
@@ -125,3 +138,7 @@ module _ (b : List ℕ) {n : ℕ} {order trail : List ℕ} (H : Holds (bookState
       go (no l) =
           N .others s p (omega arith) (λ j c e. eqb-false s (byte order j) (lowest-below f n .first j (omega arith)) (sym e))
           ∙ ap depthOf (sym (book-first b H (eqb s) ∙ first-none (eqb s) order trail n f (λ j b. refl) (omega arith)))
+
+-- depths at the front of an array
+pub depths-front : (b part rest : List ℕ) → DepthsOf b part → states b < length part → DepthsOf b (part ++ rest)
+depths-front b part rest D l s p m = List·getD-append part rest 0 s (omega arith) ∙ D s p m

@@ -41,43 +41,17 @@ pub fn page(book: &[u8], page: &mut [u8]) -> Paged
     Paged::Written(write_page(book, page))
 }
 
-// A call that no row refuses. Books of few states get small arrays, which are sooner cleared.
+// A call that no row refuses.
 fn write_page(book: &[u8], page: &mut [u8]) -> usize
     requires { ⌜ BookPassed (now book) × (9271 ≤ length (now page)) ⌝ }
     ensures { λ r. ⌜ r ≡ Book.states (now (book .entry)) * 73 ⌝ }
     ensures { λ _. ⌜ now (page .exit) ≡ written (pageOf (now (book .entry))) (now (page .entry)) ⌝ }
 {
     let q = requests(book);
-    if states(book) < 16 {
-        return write_few(book, q, page);
-    }
-    write_many(book, q, page)
-}
-
-fn write_few(book: &[u8], requests: usize, page: &mut [u8]) -> usize
-    requires { ⌜ BookPassed (now book) × (requests ≡ Book.requests (now book)) × (9271 ≤ length (now page)) × (Book.states (now book) < 16) ⌝ }
-    ensures { λ r. ⌜ r ≡ Book.states (now (book .entry)) * 73 ⌝ }
-    ensures { λ _. ⌜ now (page .exit) ≡ written (pageOf (now (book .entry))) (now (page .entry)) ⌝ }
-{
-    let w = width_from(book, requests);
-    let mut order = [0u8; 16];
-    let mut trail = [0u8; 32];
-    let mut depths = [0u8; 16];
-    find_depths(book, w, &mut order, &mut trail, &mut depths);
-    write_lines(book, w, requests, &depths, page)
-}
-
-fn write_many(book: &[u8], requests: usize, page: &mut [u8]) -> usize
-    requires { ⌜ BookPassed (now book) × (requests ≡ Book.requests (now book)) × (9271 ≤ length (now page)) ⌝ }
-    ensures { λ r. ⌜ r ≡ Book.states (now (book .entry)) * 73 ⌝ }
-    ensures { λ _. ⌜ now (page .exit) ≡ written (pageOf (now (book .entry))) (now (page .entry)) ⌝ }
-{
-    let w = width_from(book, requests);
-    let mut order = [0u8; 128];
-    let mut trail = [0u8; 256];
+    let w = width_from(book, q);
     let mut depths = [0u8; 128];
-    find_depths(book, w, &mut order, &mut trail, &mut depths);
-    write_lines(book, w, requests, &depths, page)
+    find_depths(book, w, &mut depths);
+    write_lines(book, w, q, &depths, page)
 }
 
 // The lines of all states, one after another, and how many bytes they have.
