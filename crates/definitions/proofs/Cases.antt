@@ -17,6 +17,7 @@ use Rattle.definitions.specs.Compare.{comparison, compareAnswer, compare
 use Rattle.definitions.specs.Telling.{Telling, none as untold, accept, reject, both}
 use Rattle.definitions.specs.Opened.{openAnswer, tellAnswer, stepRefusal, stepState}
 use Rattle.definitions.specs.Shelf.{shelfText}
+use Rattle.definitions.specs.Page.{page, pageAnswer, pageBuffer}
 use Rattle.definitions.specs.Cases.Table.{cases}
 use Rattle.definitions.specs.Cases.Claim.{Claim, number, says, bytes, rows, found, history, builds, finds, compares, tells, Holds, test, sameRows, sameOption, sameAnswer, sameFound, sameFindings, tellingNumber, sameTelling}
 
@@ -25,7 +26,7 @@ fails claim = not (test claim)
 
 -- the number of the first case that fails is 0: none does
 none-fails : placeOf fails cases ≡ 0
-unfolding bookOf bookRows situations findings comparison policyRefusal bookRefusal buildAnswer buildBuffer verdictAnswer verdictBuffers compareAnswer compareBuffer openAnswer tellAnswer stepRefusal stepState shelfText
+unfolding bookOf bookRows situations findings comparison policyRefusal bookRefusal buildAnswer buildBuffer verdictAnswer verdictBuffers compareAnswer compareBuffer openAnswer tellAnswer stepRefusal stepState shelfText page pageAnswer pageBuffer
 none-fails = refl
 
 -- ---- what passes a test is equal

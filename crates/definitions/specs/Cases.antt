@@ -9,5 +9,6 @@ pub mod Refusals
 pub mod Limits
 pub mod Places
 pub mod Calls
+pub mod Pages
 pub mod Large
 pub mod Table
