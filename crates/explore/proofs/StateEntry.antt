@@ -1,11 +1,11 @@
 -- A state is looked up among the first n of an array, and put in after them where it is new.
 use mathlib.Core.Path.{_≡_, sym, ap, _∙_}
-use mathlib.Core.Bool.{true, false≢true}
+use mathlib.Core.Bool.{true, false≢true, _&&_}
 use mathlib.Core.List.{List, [], _∷_, _++_}
 use Prim.Native.Nat.{ℕ, zero, suc, _+_, _-_, _<_, _≤_}
 use native.Mathlib.Omega.{arith}
 use native.Mathlib.Numerals.{add-one}
-use lib.Dec.{eqb, leb}
+use lib.Dec.{eqb, leb, ltb}
 use lib.ListN.{length, getD, take, set}
 use lib.Seq.{length-take-le, getD-take}
 use borrow.Author.Tests.{eqb-true, leb-true, lt-ltb}
@@ -41,6 +41,11 @@ module _ (found : List ℕ) (n x : ℕ) (room : n < length found) where
       let here : getD (take n found) k 0 ≡ x = getD-take n found k 0 inside ∙ rw last at (eqb-true (getD found (suc k - 1) 0) x (both .1)) in
       let place : k < length (take n found) = omega (arith, length-take-le n found (omega arith)) in
       note-known (suc k) (rw here at (once k place)) (omega arith)
+
+  pub hint-within : (r : ℕ) → isNumber found n x r ≡ true → r ≤ length (take n found)
+  hint-within r e =
+      let inside = leb-true r n (and-true (leb r n) (eqb (getD found (r - 1) 0) x) (and-true (ltb 0 r) (leb r n && eqb (getD found (r - 1) 0) x) e .1) .0) in
+      omega (arith, length-take-le n found (omega arith))
 
   -- its number is a byte
   pub noted-low : (r : ℕ) → r ≡ numberAmong (addState (take n found) x) x → r ≤ n + 1

@@ -2,13 +2,14 @@
 use mathlib.Core.Path.{_≡_}
 use mathlib.Core.Bool.{Bool, cond, _&&_}
 use mathlib.Core.List.{List}
-use Prim.Native.Nat.{ℕ, suc, _-_, _<_, _≤_}
+use Prim.Native.Nat.{ℕ, suc, _-_, _%_, _<_, _≤_}
 use lib.Dec.{eqb, leb, ltb}
 use lib.ListN.{length, getD}
 use Rattle.automaton.specs.Machine.{Machine}
 use Rattle.automaton.specs.Explore.{Reached, reached}
 use Rattle.automaton.specs.Table.{table}
 use Rattle.definitions.specs.Answer.{written}
+use Rattle.definitions.specs.Bytes.{byte}
 use Rattle.definitions.specs.Book.{concat}
 use Rattle.explore.specs.SetImages.{imagesMachine}
 use Rattle.automaton.specs.StateList.{stateList, numberAmong, afterCodes, rowAmong}
@@ -16,6 +17,10 @@ use Rattle.automaton.specs.StateList.{stateList, numberAmong, afterCodes, rowAm
 -- each number of the list is a state and stands once: its number is its place
 abbrev pub Once : List ℕ → Type 0
 Once l = (k : ℕ) → k < length l → numberAmong l (getD l k 0) ≡ suc k
+
+-- each number of the list has left a hint at the place that it decides
+pub record Hinted (l hints : List ℕ) : Type 0 where
+  pub hint : (k : ℕ) → k < length l → 1 ≤ byte hints (getD l k 0 % 251)
 
 -- the number is that of a place among the first n, and x stands there
 abbrev pub isNumber : List ℕ → ℕ → ℕ → ℕ → Bool

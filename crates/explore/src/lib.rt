@@ -1,13 +1,14 @@
 // Breadth-first search over the situations of a policy, by its table of images. A slice holds a situation as its word.
 ghost use mathlib.Core.Path.{_≡_};
-ghost use Prim.Native.Nat.{_+_, _*_, _<_, _≤_, max};
+ghost use Prim.Native.Nat.{_+_, _*_, _%_, _<_, _≤_, max};
 ghost use lib.Dec.{eqb};
 ghost use lib.ListN.{length, take};
 ghost use Rattle.automaton.specs.Below.{placeOf};
 ghost use Rattle.definitions.specs.Answer.{written};
+ghost use Rattle.definitions.specs.Bytes.{byte};
 ghost use Rattle.explore.specs.SetImages.{emptySets, unions, withImages, imagesOfSet, imagesMachine};
 ghost use Rattle.automaton.specs.StateList.{numberAmong, addState};
-ghost use Rattle.explore.specs.Reaches.{Once, isNumber, VisitedByImages, Reaches};
+ghost use Rattle.explore.specs.Reaches.{Once, Hinted, isNumber, VisitedByImages, Reaches};
 use automaton::wide;
 use situation::Situation;
 
@@ -77,6 +78,17 @@ fn place(found: &[u64], n: usize, x: Situation) -> usize
     0
 }
 
+// The same, where a hint of 0 says that it is not there.
+fn place_by(found: &[u64], n: usize, x: Situation, hint: usize) -> usize
+    requires { ⌜ (n ≤ length (now found)) × (hint ≡ 0 → placeOf (eqb (x .set)) (take n (now found)) ≡ 0) ⌝ }
+    ensures { λ r. ⌜ r ≡ placeOf (eqb (x .set)) (take n (now (found .entry))) ⌝ }
+{
+    if hint == 0 {
+        return 0;
+    }
+    place(found, n, x)
+}
+
 // Whether `number` is that of a state, `x`, among the first `n` found.
 fn is_number(found: &[u64], n: usize, x: Situation, number: usize) -> bool
     requires { ⌜ n ≤ length (now found) ⌝ }
@@ -94,13 +106,13 @@ fn is_number(found: &[u64], n: usize, x: Situation, number: usize) -> bool
     known.equals(x)
 }
 
-// The number of a state among the first `n` found, where a new one is put in after them.
-fn enter(found: &mut [u64], n: usize, x: Situation) -> usize
-    requires { ⌜ (n < length (now found)) × (0 < x .set) ⌝ }
+// The number of a state among the first `n` found, where a new one is put in after them. A hint of 0 says that it is new.
+fn enter(found: &mut [u64], n: usize, x: Situation, hint: usize) -> usize
+    requires { ⌜ (n < length (now found)) × (0 < x .set) × (hint ≡ 0 → placeOf (eqb (x .set)) (take n (now found)) ≡ 0) ⌝ }
     ensures { λ r. ⌜ r ≡ numberAmong (addState (take n (now (found .entry))) (x .set)) (x .set) ⌝ }
     ensures { λ r. ⌜ now (found .exit) ≡ written (addState (take n (now (found .entry))) (x .set)) (now (found .entry)) ⌝ }
 {
-    let number = place(found, n, x);
+    let number = place_by(found, n, x, hint);
     if 0 < number {
         return number;
     }
@@ -108,12 +120,13 @@ fn enter(found: &mut [u64], n: usize, x: Situation) -> usize
     n + 1
 }
 
-// The same for a situation; 0 for the empty set. `hints` has, at a place that the set decides, the number that was found there last. It may hold anything: a
-// hint is tried, and where it is wrong the search is made. Nothing is said of what it holds afterwards.
+// The same for a situation; 0 for the empty set. `hints` has, at a place that the set decides, the number that was found there last, and 0 only where none was: a
+// hint is tried, and where it is wrong the search is made, but where it is 0 the set is new.
 fn note(found: &mut [u64], n: usize, x: Situation, hints: &mut [u8]) -> usize
-    requires { ⌜ (n < length (now found)) × (n ≤ 127) × (256 ≤ length (now hints)) × Once (take n (now found)) ⌝ }
+    requires { ⌜ (n < length (now found)) × (n ≤ 127) × (256 ≤ length (now hints)) × Once (take n (now found)) × Hinted (take n (now found)) (now hints) ⌝ }
     ensures { λ r. ⌜ r ≡ numberAmong (addState (take n (now (found .entry))) (x .set)) (x .set) ⌝ }
     ensures { λ r. ⌜ now (found .exit) ≡ written (addState (take n (now (found .entry))) (x .set)) (now (found .entry)) ⌝ }
+    ensures { λ r. ⌜ Hinted (addState (take n (now (found .entry))) (x .set)) (now (hints .exit)) ⌝ }
 {
     if x.is_empty() {
         return 0;
@@ -123,7 +136,7 @@ fn note(found: &mut [u64], n: usize, x: Situation, hints: &mut [u8]) -> usize
     if is_number(found, n, x, hint) {
         return hint;
     }
-    let number = enter(found, n, x);
+    let number = enter(found, n, x, hint);
     hints[at] = number as u8;
     number
 }
@@ -139,8 +152,8 @@ fn greater(a: usize, b: usize) -> usize
 }
 
 // The codes are tried, in order, from a situation that was found: the row gets the numbers of the situations that they lead to, and new ones are put in
-// after the first `n`. Returns how many are found then. It stops at the 128th: then it returns 128, and neither list is whole. The last two slices are room to
-// work in; nothing is said of what they hold afterwards.
+// after the first `n`. Returns how many are found then. It stops at the 128th: then it returns 128, and neither list is whole. `next` is room to work in;
+// nothing is said of what it holds afterwards.
 fn visit(
     images: &[u64],
     valuations: usize,
@@ -154,9 +167,10 @@ fn visit(
 ) -> usize
     requires { ⌜ (valuations ≤ 64) × (valuations * w ≤ length (now images)) × (length (now next) ≡ w) ⌝ }
     requires { ⌜ (n ≤ 127) × (128 ≤ length (now found)) × (w ≤ length (now row)) × (0 < situation .set) ⌝ }
-    requires { ⌜ (256 ≤ length (now hints)) × Once (take n (now found)) ⌝ }
+    requires { ⌜ (256 ≤ length (now hints)) × Once (take n (now found)) × Hinted (take n (now found)) (now hints) ⌝ }
     ensures { λ r. ⌜ VisitedByImages (now (images .entry)) valuations w (situation .set) (take n (now (found .entry)))
         (now (found .entry)) (now (row .entry)) r (now (found .exit)) (now (row .exit)) ⌝ }
+    ensures { λ r. ⌜ (r ≤ 127 → Hinted (take r (now (found .exit))) (now (hints .exit))) ⌝ }
 {
     step_all(images, valuations, w, situation, next);
     let mut k = n;
@@ -174,8 +188,8 @@ fn visit(
 }
 
 // The situations that histories from the start reach, in the order of their earliest history, with the rows of the table of their steps one after another
-// in `raw`. Returns how many there are; 0 if there are over 127, and then nothing is said of what `found` and `raw` hold. The last two slices are room to
-// work in; nothing is said of what they hold afterwards.
+// in `raw`. Returns how many there are; 0 if there are over 127, and then nothing is said of what `found` and `raw` hold. `hints` has one for the start. It and
+// `next` are room to work in; nothing is said of what they hold afterwards.
 fn explore_in(
     images: &[u64],
     valuations: usize,
@@ -187,7 +201,7 @@ fn explore_in(
     hints: &mut [u8],
 ) -> usize
     requires { ⌜ (valuations ≤ 64) × (valuations * w ≤ length (now images)) × (length (now next) ≡ w) × (0 < start .set) ⌝ }
-    requires { ⌜ (128 ≤ length (now found)) × (127 * w ≤ length (now raw)) × (256 ≤ length (now hints)) ⌝ }
+    requires { ⌜ (128 ≤ length (now found)) × (127 * w ≤ length (now raw)) × (256 ≤ length (now hints)) × (1 ≤ byte (now hints) (start .set % 251)) ⌝ }
     ensures { λ r. ⌜ Reaches (imagesMachine (now (images .entry)) valuations w (start .set))
         (now (found .entry)) (now (raw .entry)) r (now (found .exit)) (now (raw .exit)) ⌝ }
 {
@@ -232,6 +246,7 @@ pub fn explore(
 {
     let mut next = [0u64; 136];
     let mut hints = [0u8; 256];
+    hints[(start.set % 251) as usize] = 1;
     explore_in(
         images,
         valuations,

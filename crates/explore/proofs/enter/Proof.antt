@@ -5,8 +5,8 @@ use borrow.Author.Needs.{needs}
 use Rattle.explore.proofs.enter.Statement.{statement}
 use Rattle.explore.proofs.enter.Tie as tie
 
-place-requires : tie.Need-place-requires
-place-requires c κs = search needs
+place-by-requires : tie.Need-place-by-requires
+place-by-requires c κs = search needs
 
 same-length : tie.Need-same-length
 same-length c = search needs
@@ -15,7 +15,7 @@ returns : tie.Need-returns
 returns c =
     let p = c .before .before .before .before in
     let a = p .args in
-    note-found (a .found .now) (a .n) (a .x .set) (p .pre .0) (p .pre .1) (c .before .place .result) (c .before .place .ensures) (c .if1 .taken)
+    note-found (a .found .now) (a .n) (a .x .set) (p .pre .0) (p .pre .1) (c .before .place-by .result) (c .before .place-by .ensures) (c .if1 .taken)
 
 mul-found : tie.Need-mul-found
 mul-found c = search needs
@@ -33,13 +33,13 @@ returns-2 : tie.Need-returns-2
 returns-2 c =
     let p = c .before .before .before .before in
     let a = p .args in
-    note-new (a .found .now) (a .n) (a .x .set) (p .pre .0) (p .pre .1) (omega (arith, c .before .place .ensures, c .if1 .left))
+    note-new (a .found .now) (a .n) (a .x .set) (p .pre .0) (p .pre .1) (omega (arith, c .before .place-by .ensures, c .if1 .left))
 
 pub enter-spec : {M : Type 1} → statement M
 enter-spec =
     tie.close
     (tie.spec
-    place-requires
+    place-by-requires
     same-length
     returns
     mul-found

@@ -3,13 +3,14 @@ use Rattle.explore.proofs.ReachedStates.{StatesReached, reached-begun, 
 use Rattle.definitions.proofs.SearchArray.{searched-room, searched-state}
 use Rattle.automaton.proofs.Loops.{part-is-drop}
 use Rattle.automaton.proofs.Machine.{is-state}
-use Rattle.explore.specs.Reaches.{allReached}
+use Rattle.explore.specs.Reaches.{Hinted, allReached}
+use Rattle.explore.proofs.Hints.{hinted-first}
 use Rattle.explore.specs.SetImages.{imagesMachine}
 use Rattle.automaton.proofs.Explore.{Sound, reached-sound}
 use Rattle.automaton.specs.Explore.{reached}
 use Rattle.automaton.specs.Machine.{Machine, isState}
 use borrow.Rule.Slice.PartMut.{same-len-mid}
-use lib.ListN.{length, getD, set, length-set, length-drop}
+use lib.ListN.{length, getD, take, set, length-set, length-drop}
 use lib.Seq.{getD-set-same}
 use native.Mathlib.Omega.{arith}
 use Prim.Native.Nat.{ℕ, _-_, _*_, _<_}
@@ -23,7 +24,7 @@ abbrev Inv-loop : tie.InvT-loop
 Inv-loop images valuations w found₀ raw₀ next₀ hints₀ n₀ s₀ found raw next hints n s =
     ((start : ℕ) → 0 < start → getD found₀ 0 0 ≡ start
     → StatesReached (imagesMachine images valuations w start) (allReached (imagesMachine images valuations w start)) found₀ raw₀ found raw n s)
-    × (length next ≡ w) × (length hints ≡ length hints₀)
+    × (length next ≡ w) × (length hints ≡ length hints₀) × Hinted (take n found) hints
 
 abbrev μ-loop : tie.MeasureT-loop
 μ-loop images valuations w found₀ raw₀ next₀ hints₀ n₀ s₀ found raw next hints n s = 128 - s
@@ -64,6 +65,7 @@ loop-holds c =
           rw is (reached-begun m (allReached m) (a .found .now) (a .raw .now) (p .pre .1 .0) (p .pre .1 .1) (all m) (is-state start state) (sound m (is-state start state))),
       p .pre .0 .2,
       refl,
+      hinted-first (a .found .now) (a .hints .now) (a .start .set) (omega (arith, p .pre .1 .0)) (p .pre .1 .3),
     )
 
 mul-t15 : tie.Need-mul-t15 Inv-loop μ-loop
@@ -102,7 +104,7 @@ visit-requires c κs =
       (p .0 .0, p .0 .1, at .loop .inv .1),
       (
         (i .search .few, omega (arith, r, i .room), rw (part-is-drop, length-drop) (omega arith), searched-state (i .search) t),
-        (omega (arith, at .loop .inv .2, p .1 .2), i .once),
+        (omega (arith, at .loop .inv .2, p .1 .2), i .once, at .loop .inv .3),
       ),
     )
 
@@ -129,7 +131,7 @@ returns : tie.Need-returns Inv-loop μ-loop
 returns c =
     let at = c .before .before .before .before .before .before .before .before .before .before .before .before .before .before .before .before in
     let p = begun at in
-    let visited = c .before .before .before .before .before .before .before .before .before .visit .ensures (p .args .start .set) in
+    let visited = c .before .before .before .before .before .before .before .before .before .visit .ensures .0 (p .args .start .set) in
     reaches-from (p .args .start .set) (omega (arith, p .pre .1 .0)) (sound (machine p) (is-state (p .args .start .set) (p .pre .0 .3)) .some)
     (reached-over (so-far at) (c .before .before .before .before .before .before .before .before .before .before .before .before .before .before .before .loop-test .taken) (rw part-is-drop at visited) refl (c .if1 .taken))
 
@@ -144,9 +146,10 @@ loop-again c =
     let l = c .before .before .before .before .before .before .before .before .before .before .before .before .before .before .before .before .loop in
     let v = c .before .before .before .before .before .before .before .before .before .visit in
     let t = c .before .before .before .before .before .before .before .before .before .before .before .before .before .before .before .loop-test .taken in (
-      λ start state e. reached-turn (l .inv .0 start state e) t (rw part-is-drop at (v .ensures start)) (c .if1 .left),
+      λ start state e. reached-turn (l .inv .0 start state e) t (rw part-is-drop at (v .ensures .0 start)) (c .if1 .left),
       v .kept .1 .1 .1 .1 .1 .1 .1 .0 ∙ l .inv .1,
       v .kept .1 .1 .1 .1 .1 .1 .1 .1 .0 ∙ l .inv .2,
+      v .ensures .1 (c .if1 .left),
     )
 
 same-length-5 : tie.Need-same-length-5 Inv-loop μ-loop

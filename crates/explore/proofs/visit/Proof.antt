@@ -1,6 +1,8 @@
 -- `visit` meets its contract: after c turns the codes below c have been tried.
 use Rattle.explore.proofs.SituationVisits.{CodesTried, tried-begun, tried-room, tried-once, tried-row, tried-low, tried-turn, tried-over, tried-done}
 use Rattle.explore.proofs.SetRows.{row-step}
+use Rattle.explore.specs.Reaches.{Hinted}
+use Rattle.explore.proofs.Hints.{hinted-turn}
 use Rattle.explore.specs.SetImages.{imageOfSetIn, imagesOfSet, imagesMachine}
 use Rattle.automaton.specs.Machine.{step}
 use Rattle.automaton.proofs.Below.{length-list-below}
@@ -14,7 +16,7 @@ use Rattle.explore.proofs.visit.Tie as tie
 
 -- the situation was handed on and the loop has it no more: the invariant speaks of every state that leads to the sets in `next`
 abbrev Inv-loop : tie.InvT-loop
-Inv-loop images valuations w found₀ n row₀ next hints₀ k₀ c₀ found row hints k c = ((start s : ℕ) → 0 < s → next ≡ imagesOfSet images valuations w s → CodesTried (imagesMachine images valuations w start) s (take n found₀) found₀ row₀ found row k c) × (length hints ≡ length hints₀)
+Inv-loop images valuations w found₀ n row₀ next hints₀ k₀ c₀ found row hints k c = ((start s : ℕ) → 0 < s → next ≡ imagesOfSet images valuations w s → CodesTried (imagesMachine images valuations w start) s (take n found₀) found₀ row₀ found row k c) × (length hints ≡ length hints₀) × Hinted (take k found) hints
 
 abbrev μ-loop : tie.MeasureT-loop
 μ-loop images valuations w found₀ n row₀ next hints₀ k₀ c₀ found row hints k c = w - c
@@ -44,7 +46,7 @@ led c start =
 
 -- its number is a byte
 low : (c : tie.After-note Inv-loop μ-loop) → c .note .result ≤ 128
-low c = tried-low (tried (c .before .before .before .before .before) 0) (c .before .before .before .before .loop-test .taken) (led (c .before .before .before .before) 0) (c .note .ensures .0) (c .note .ensures .1)
+low c = tried-low (tried (c .before .before .before .before .before) 0) (c .before .before .before .before .loop-test .taken) (led (c .before .before .before .before) 0) (c .note .ensures .0) (c .note .ensures .1 .0)
 
 step-all-requires : tie.Need-step-all-requires Inv-loop μ-loop
 step-all-requires c κs = search needs
@@ -52,7 +54,7 @@ step-all-requires c κs = search needs
 loop-holds : tie.Need-loop-holds Inv-loop μ-loop
 loop-holds c =
     let p = c .before .before .before .before .before .before .before .before .before in
-    (λ start s _ _. tried-begun _ s (p .args .n) (p .args .found .now) (p .args .row .now) (p .pre .1 .0 .1) (p .pre .1 .0 .2) (p .pre .1 .0 .0), refl)
+    (λ start s _ _. tried-begun _ s (p .args .n) (p .args .found .now) (p .args .row .now) (p .pre .1 .0 .1) (p .pre .1 .0 .2) (p .pre .1 .0 .0), refl, p .pre .1 .1 .2)
 
 mul-t19 : tie.Need-mul-t19 Inv-loop μ-loop
 mul-t19 c = search needs
@@ -66,7 +68,7 @@ note-requires : tie.Need-note-requires Inv-loop μ-loop
 note-requires c κs =
     let t = tried (c .before .before .before .before) 0 in
     let p = c .before .before .before .before .before .before .before .before .before .before .before .before .before .before .pre .1 .1 in
-    (omega (arith, tried-room t, t .room, t .few), t .few, omega (arith, c .before .before .before .before .loop .inv .1, p .0), tried-once t (p .1))
+    (omega (arith, tried-room t, t .room, t .few), t .few, omega (arith, c .before .before .before .before .loop .inv .1, p .0), tried-once t (p .1), c .before .before .before .before .loop .inv .2)
 
 cast-row : tie.Need-cast-row Inv-loop μ-loop
 cast-row c =
@@ -92,10 +94,10 @@ same-length-4 : tie.Need-same-length-4 Inv-loop μ-loop
 same-length-4 c = c .before .before .before .before .before .before .note .kept .1 .1 .1 .0 ∙ c .before .before .before .before .before .before .before .before .before .before .before .loop .inv .1
 
 returns : tie.Need-returns Inv-loop μ-loop
-returns c start =
+returns c =
     let p = c .before .before .before .before .before .before in
     let e = c .before .greater .ensures in
-    rw e (tried-over (tried (c .before .before .before .before .before .before .before .before .before .before .before) start) (c .before .before .before .before .before .before .before .before .before .before .loop-test .taken) (led (c .before .before .before .before .before .before .before .before .before .before) start) (p .note .ensures .0) (p .note .ensures .1) (omega arith))
+    (λ start. rw e (tried-over (tried (c .before .before .before .before .before .before .before .before .before .before .before) start) (c .before .before .before .before .before .before .before .before .before .before .loop-test .taken) (led (c .before .before .before .before .before .before .before .before .before .before) start) (p .note .ensures .0) (p .note .ensures .1 .0) (omega arith)), λ few. absurd (omega arith))
 
 add-c : tie.Need-add-c Inv-loop μ-loop
 add-c c = search needs
@@ -110,7 +112,10 @@ loop-again c =
     let t = c .before .before .before .before .before .before .before .before .before .before .loop-test .taken in
     let n = c .before .before .before .before .before .before .note in
     let e = c .before .greater .ensures in
-    (λ start s state is. rw e (tried-turn (i .0 start s state is) t (row-step (a .images .now) (a .w) s start (a .valuations) _ state is t) (n .ensures .0) (n .ensures .1) (omega arith)), n .kept .1 .1 .1 .0 ∙ i .1)
+    let at = c .before .before .before .before .before .before .before .before .before .before .before in
+    let found = tried at 0 in
+    let hinted = hinted-turn (at .loop .found) (at .loop .k) (getD (at .before .before .before .step-all .last .1 .1 .1 .1 .0) (at .loop .c) 0) (n .result) _ _ _ (omega (arith, tried-room found, found .room, found .few)) e (n .ensures .0) (n .ensures .1 .0) (n .ensures .1 .1) in
+    (λ start s state is. rw e (tried-turn (i .0 start s state is) t (row-step (a .images .now) (a .w) s start (a .valuations) _ state is t) (n .ensures .0) (n .ensures .1 .0) (omega arith)), n .kept .1 .1 .1 .0 ∙ i .1, hinted)
 
 same-length-5 : tie.Need-same-length-5 Inv-loop μ-loop
 same-length-5 c = tried-room (tried (c .before) 0)
@@ -125,7 +130,7 @@ same-length-8 : tie.Need-same-length-8 Inv-loop μ-loop
 same-length-8 c = c .before .loop .inv .1
 
 returns-2 : tie.Need-returns-2 Inv-loop μ-loop
-returns-2 c start = tried-done (tried (c .before) start) (c .loop-test .left)
+returns-2 c = (λ start. tried-done (tried (c .before) start) (c .loop-test .left), λ few. c .before .loop .inv .2)
 
 pub visit-spec : {M : Type 1} → statement M
 visit-spec =
