@@ -3,17 +3,17 @@ use mathlib.Core.Path.{_≡_, refl, ap, _∙_}
 use mathlib.Core.Bool.{Bool, true, false, cond}
 use mathlib.Core.List.{List, [], _∷_, _++_}
 use mathlib.Core.Option.{Option, none, some}
-use Prim.Native.Nat.{ℕ, suc, _+_, _-_, _*_, _/_, _≤_, _<_}
+use Prim.Native.Nat.{ℕ, suc, _+_, _-_, _*_, _/_, _<_}
 use native.Mathlib.Omega.{arith}
 use lib.Dec.{eqb, ltb}
-use lib.ListN.{length, getD, take, drop, replicate, length-append, length-replicate, List·getD-append}
+use lib.ListN.{length, getD, take, drop, replicate, length-append, List·getD-append}
 use lib.Seq.{take-at, drop-at, drop-drop, getD-drop, getD-at}
 use Rattle.automaton.specs.Below.{listBelow}
 use Rattle.automaton.specs.Explore.{Reached, firstThat}
 use Rattle.automaton.proofs.Below.{length-list-below, getD-list-below}
 use Rattle.automaton.proofs.WellFormed.{Wide}
 use Rattle.definitions.specs.Book.{states}
-use Rattle.definitions.specs.Decimal.{digit, decimal}
+use Rattle.definitions.specs.Decimal.{digit}
 use Rattle.definitions.specs.Shelf.{blank, newline}
 use Rattle.definitions.specs.Verdict.{statesReached}
 use Rattle.definitions.specs.Page.{threeColumns, lengthColumns, requestColumn, pageLine, lineAfter, pageLines, page}

@@ -1,8 +1,7 @@
 -- The page of a book that passes, built here or not, is right: each line shows the length of the earliest history that leads to its state, dashes exactly where
 -- none does, and what may happen to each request after any that does. It ends in page-right.
-use mathlib.Core.Path.{_≡_, refl, sym, ap, _∙_, subst}
-use mathlib.Core.Bool.{Bool, true}
-use mathlib.Core.List.{List, [], _++_, append-nil}
+use mathlib.Core.Path.{_≡_, refl, sym, ap, _∙_}
+use mathlib.Core.List.{List, [], append-nil}
 use mathlib.Core.Option.{Option, none, some}
 use Prim.Native.Nat.{ℕ, zero, suc, _+_, _-_, _*_, _≤_, _<_}
 use native.Mathlib.Omega.{arith}
@@ -10,7 +9,7 @@ use lib.Dec.{eqb}
 use lib.ListN.{length, getD, take, drop}
 use borrow.Author.Tests.{eqb-true, eq-eqb, lt-ltb, le-ltb}
 use Rattle.automaton.specs.History.{History, Earliest}
-use Rattle.automaton.specs.Machine.{after, isState}
+use Rattle.automaton.specs.Machine.{after}
 use Rattle.automaton.specs.Explore.{Reached, firstThat}
 use Rattle.automaton.proofs.Machine.{is-state}
 use Rattle.automaton.proofs.Earliest.{Passes, first-earliest, first-none}
@@ -19,9 +18,8 @@ use Rattle.definitions.specs.Book.{events, requests, states, bookMachine
 use Rattle.definitions.specs.Refusal.{bookRefusal}
 use Rattle.definitions.specs.Checked.{BookPassed}
 use Rattle.definitions.specs.Telling.{toTelling, telling}
-use Rattle.definitions.specs.Shelf.{blank}
 use Rattle.definitions.specs.Verdict.{statesReached}
-use Rattle.definitions.specs.Page.{threeColumns, dashes, lengthColumns, letter, requestColumn, pageLine, pageLines, page}
+use Rattle.definitions.specs.Page.{threeColumns, dashes, lengthColumns, letter, pageLine, pageLines, page}
 use Rattle.definitions.specs.Demands.{accepts, rejects, LeadsTo, StateOf, LineIsRight, PageIsRight}
 use Rattle.definitions.proofs.Accepted.{book-passed}
 use Rattle.definitions.proofs.BlockedHistories.{code-at}

@@ -18,11 +18,11 @@ use Rattle.definitions.specs.Book.{events, requests, width, entry, bookMachine}
 use Rattle.definitions.proofs.BookSteps.{step-is-entry}
 use Rattle.definitions.specs.Decimal.{digit, decimal}
 use Rattle.definitions.specs.Shelf.{blank, newline}
-use Rattle.definitions.specs.Page.{threeColumns, dashes, letter, requestColumn}
+use Rattle.definitions.specs.Page.{threeColumns, dashes, requestColumn}
 use Rattle.definitions.specs.Telling.{telling}
 use Rattle.text.specs.Put.{Put}
 use Rattle.text.proofs.Puts.{then, byte-put}
-use Rattle.page.specs.Depths.{depthColumns, letterBy, letterIn, lineOf}
+use Rattle.page.specs.LineColumns.{depthColumns, letterBy, letterIn, lineOf}
 
 -- ---- a number after as many blanks as it leaves
 module _ {before middle after : List ℕ} {at next end : ℕ} (n : ℕ) where

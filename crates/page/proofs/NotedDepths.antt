@@ -3,7 +3,6 @@ use mathlib.Core.Path.{_≡_, refl, sym, ap, _∙_}
 use mathlib.Core.Bool.{Bool}
 use mathlib.Core.Logic.{_⊎_, inl, inr}
 use mathlib.Core.List.{List, _++_}
-use mathlib.Core.Option.{none, some}
 use Prim.Native.Nat.{ℕ, zero, suc, _+_, _*_, _≤_, _<_}
 use native.Mathlib.Decide.{decLt}
 use native.Mathlib.Numerals.{add-one}
@@ -27,16 +26,16 @@ use Rattle.search.proofs.Found.{holds-length, holds-at}
 use Rattle.search.proofs.Trails.{history-empty, parent-low, history-short, step-length}
 use Rattle.search.proofs.FirstFound.{first-none, first-some}
 use Rattle.search.proofs.BookSearch.{book-first, book-most, book-few, book-inside, book-once}
-use Rattle.page.specs.Depths.{depthOf, depthFrom, Places, CanNote, Noted, DepthsOf}
+use Rattle.page.specs.Depths.{depthOf, depthFrom, SearchedPlaces, CanNoteDepth, DepthsNoted, DepthsOf}
 
 -- ---- one state more
-module _ (order trail : List ℕ) (n : ℕ) (depths : List ℕ) (P : Places order trail n (length depths)) where
-  module _ (k x : ℕ) (N : Noted order trail n k depths) (l : k < n) (is : x ≡ suc (length (historyAt trail k))) where
+module _ (order trail : List ℕ) (n : ℕ) (depths : List ℕ) (P : SearchedPlaces order trail n (length depths)) where
+  module _ (k x : ℕ) (N : DepthsNoted order trail n k depths) (l : k < n) (is : x ≡ suc (length (historyAt trail k))) where
     noted-found : (j : ℕ) → (j < k) ⊎ (j ≡ k) → byte (set depths (byte order k) x) (byte order j) ≡ suc (length (historyAt trail j))
     noted-found j (inl b) = getD-set-other depths (byte order k) (byte order j) x 0 (P .once j k b l) ∙ N .found j b
     noted-found j (inr here) = rw here (getD-set-same depths (byte order k) x 0 (P .below k l) ∙ is)
 
-    noted-more : Noted order trail n (suc k) (set depths (byte order k) x)
+    noted-more : DepthsNoted order trail n (suc k) (set depths (byte order k) x)
     noted-more = record {
       found = λ j b. noted-found j (below-suc j k b);
       others = λ s p m never.
@@ -44,13 +43,13 @@ module _ (order trail : List ℕ) (n : ℕ) (depths : List ℕ) (P : Places orde
     }
 
   -- the first
-  pub noted-first : 1 ≤ n → Noted order trail n 0 depths → (y : ℕ) → y ≡ byte order 0 → (y < length depths) × Noted order trail n 1 (set depths y 1)
+  pub noted-first : 1 ≤ n → DepthsNoted order trail n 0 depths → (y : ℕ) → y ≡ byte order 0 → (y < length depths) × DepthsNoted order trail n 1 (set depths y 1)
   noted-first l N y e =
       let empty = ap length (history-empty trail 0 (λ j b. absurd (omega arith)) 0 refl) in
       rw e (P .below 0 l, noted-more 0 1 N l (omega (arith, empty)))
 
   -- each other one was found from a state at an earlier place
-  module _ (k : ℕ) (after-first : 1 ≤ k) (l : k < n) (N : Noted order trail n k depths) where
+  module _ (k : ℕ) (after-first : 1 ≤ k) (l : k < n) (N : DepthsNoted order trail n k depths) where
     falls : (j : ℕ) → j ≤ k → EarlierParents (suc j) (firstAt trail)
     falls j b i c = P .falls i (omega arith)
 
@@ -60,7 +59,7 @@ module _ (order trail : List ℕ) (n : ℕ) (depths : List ℕ) (P : Places orde
     depth-is : depthFrom order trail k depths ≡ suc (length (historyAt trail k))
     depth-is = omega (arith, N .found (firstAt trail k) parent-before, step-length trail k (falls k (omega arith)) k after-first (omega arith))
 
-    pub can-note : CanNote order trail k depths
+    pub can-note : CanNoteDepth order trail k depths
     can-note = record {
       inTrail = omega (arith, P .roomTrail);
       inOrder = omega (arith, P .roomOrder);
@@ -70,11 +69,11 @@ module _ (order trail : List ℕ) (n : ℕ) (depths : List ℕ) (P : Places orde
       fits = omega (arith, depth-is, history-short trail k (falls k (omega arith)), P .few);
     }
 
-    pub noted-next : {more : List ℕ} → more ≡ set depths (byte order k) (depthFrom order trail k depths) → Noted order trail n (k + 1) more
+    pub noted-next : {more : List ℕ} → more ≡ set depths (byte order k) (depthFrom order trail k depths) → DepthsNoted order trail n (k + 1) more
     noted-next e = rw (e, add-one k) (noted-more k (depthFrom order trail k depths) N l depth-is)
 
 -- the places do not change with the depths
-pub places-same : {order trail : List ℕ} {n r s : ℕ} → r ≡ s → Places order trail n r → Places order trail n s
+pub places-same : {order trail : List ℕ} {n r s : ℕ} → r ≡ s → SearchedPlaces order trail n r → SearchedPlaces order trail n s
 places-same {order} {trail} {n} e P = rw (← e) P
 
 -- ---- room for a search
@@ -92,7 +91,7 @@ empty-arrays most size order trail depths e enough few o t =
 
 -- ---- what a search of a book leaves
 module _ (b : List ℕ) {n : ℕ} {order trail numbers : List ℕ} (A : Arrays (bookStates b) n order trail numbers) (ok : BookPassed b) (enough : states b < length numbers) where
-  pub book-places : Places order trail n (length numbers)
+  pub book-places : SearchedPlaces order trail n (length numbers)
   book-places =
       let most = book-most b (A .holds) ok in
       record {
@@ -105,7 +104,7 @@ module _ (b : List ℕ) {n : ℕ} {order trail numbers : List ℕ} (A : Arrays (
       }
 
   -- its numbers are 0 where a state is not found
-  pub nothing-noted : Noted order trail n 0 numbers
+  pub nothing-noted : DepthsNoted order trail n 0 numbers
   nothing-noted = record { found = λ j b. absurd (omega arith); others = unfound }
     where
       unfound : (s : ℕ) → 1 ≤ s → s < length numbers → ((j : ℕ) → j < n → byte order j ≡ s → ⊥) → byte numbers s ≡ 0
@@ -120,7 +119,7 @@ module _ (b : List ℕ) {n : ℕ} {order trail numbers : List ℕ} (A : Arrays (
               absurd (never k inside (sym (hit .1 ∙ ap (λ (t : Reached). t .state) (holds-at (A .holds) k inside))))
 
 -- ---- the depths at its end
-module _ (b : List ℕ) {n : ℕ} {order trail : List ℕ} (H : Holds (bookStates b) n order trail) (depths : List ℕ) (N : Noted order trail n n depths)
+module _ (b : List ℕ) {n : ℕ} {order trail : List ℕ} (H : Holds (bookStates b) n order trail) (depths : List ℕ) (N : DepthsNoted order trail n n depths)
     (enough : states b < length depths) where
   pub book-depths : DepthsOf b depths
   book-depths s p m = go (decLt k n)

@@ -1,28 +1,26 @@
 -- The lines of a page, written one after another into borrowed parts of the buffer.
 use mathlib.Core.Path.{_≡_, refl, sym, ap, _∙_}
-use mathlib.Core.List.{List, [], _∷_, _++_}
+use mathlib.Core.List.{List, []}
 use mathlib.Core.Option.{Option, none, some}
-use Prim.Native.Nat.{ℕ, zero, suc, _+_, _-_, _*_, _≤_, _<_}
+use Prim.Native.Nat.{ℕ, suc, _+_, _-_, _*_, _≤_, _<_}
 use native.Mathlib.Numerals.{add-one}
 use native.Mathlib.Omega.{arith}
 use lib.Dec.{eqb}
 use lib.ListN.{length, getD, take, drop}
 use lib.Seq.{take-all}
 use borrow.Rule.Slice.PartMut.{putMid}
-use Rattle.automaton.specs.Below.{listBelow}
 use Rattle.automaton.specs.Explore.{Reached, firstThat}
-use Rattle.automaton.proofs.Loops.{part-is-drop}
 use Rattle.definitions.specs.Answer.{written}
 use Rattle.definitions.specs.Bytes.{byte}
-use Rattle.definitions.specs.Book.{concat, states}
+use Rattle.definitions.specs.Book.{states}
 use Rattle.definitions.specs.Checked.{BookPassed}
 use Rattle.definitions.specs.Rows.{laid}
-use Rattle.definitions.specs.Shelf.{blank, newline}
 use Rattle.definitions.specs.Verdict.{statesReached}
-use Rattle.definitions.specs.Page.{threeColumns, lengthColumns, requestColumn, pageLines, page}
+use Rattle.definitions.specs.Page.{lengthColumns, pageLines, page}
 use Rattle.definitions.proofs.RowsWritten.{laid-none, laid-front, laid-length, laid-turn}
 use Rattle.definitions.proofs.PageLines.{lines-count, lines-at, lines-wide}
-use Rattle.page.specs.Depths.{depthOf, depthColumns, DepthsOf, lineOf}
+use Rattle.page.specs.Depths.{depthOf, DepthsOf}
+use Rattle.page.specs.LineColumns.{depthColumns, lineOf}
 
 depth-shows : (o : Option Reached) → depthColumns (depthOf o) ≡ lengthColumns o
 depth-shows none = refl

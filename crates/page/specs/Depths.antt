@@ -1,30 +1,24 @@
--- The depth of each state of a book in a search, and a line by its state's depth.
+-- The depth of each state of a book in a search.
 use mathlib.Core.Path.{_≡_}
-use mathlib.Core.List.{List, [], _∷_, _++_}
+use mathlib.Core.List.{List}
 use mathlib.Core.Option.{Option, none, some}
-use Prim.Native.Nat.{ℕ, zero, suc, _+_, _*_, _≤_, _<_}
+use Prim.Native.Nat.{ℕ, suc, _+_, _*_, _≤_, _<_}
 use lib.Dec.{eqb}
 use lib.ListN.{length}
-use Rattle.automaton.specs.Below.{listBelow}
 use Rattle.automaton.specs.Explore.{Reached, firstThat}
-use Rattle.automaton.specs.Machine.{isState}
 use Rattle.automaton.specs.Parents.{EarlierParents}
 use Rattle.definitions.specs.Bytes.{byte}
 use Rattle.definitions.specs.Book.{states}
-use Rattle.definitions.specs.Page.{threeColumns, dashes, letter, requestColumn}
-use Rattle.definitions.specs.Telling.{toTelling}
-use Rattle.definitions.specs.Shelf.{blank, newline}
 use Rattle.definitions.specs.Verdict.{statesReached}
 use Rattle.search.specs.Trail.{firstAt, historyAt}
 
--- ---- depths
 -- one more than the length of the history, 0 if there is none
 abbrev pub depthOf : Option Reached → ℕ
 depthOf none = 0
 depthOf (some t) = suc (length (t .history))
 
 -- the arrays of a search that found n states, with room for so many depths: each state once, each but the first from an earlier place
-pub record Places (order trail : List ℕ) (n room : ℕ) : Type 0 where
+pub record SearchedPlaces (order trail : List ℕ) (n room : ℕ) : Type 0 where
   pub few : n ≤ 127
   pub roomOrder : n ≤ length order
   pub roomTrail : 2 * n ≤ length trail
@@ -37,7 +31,7 @@ abbrev pub depthFrom : List ℕ → List ℕ → ℕ → List ℕ → ℕ
 depthFrom order trail k depths = byte depths (byte order (firstAt trail k)) + 1
 
 -- it can be noted
-pub record CanNote (order trail : List ℕ) (k : ℕ) (depths : List ℕ) : Type 0 where
+pub record CanNoteDepth (order trail : List ℕ) (k : ℕ) (depths : List ℕ) : Type 0 where
   pub inTrail : 2 * k < length trail
   pub inOrder : k < length order
   pub parent : firstAt trail k < length order
@@ -46,26 +40,10 @@ pub record CanNote (order trail : List ℕ) (k : ℕ) (depths : List ℕ) : Type
   pub fits : depthFrom order trail k depths < 256
 
 -- of the n states at the places the depths of the first k are noted, and no other state has one
-pub record Noted (order trail : List ℕ) (n k : ℕ) (depths : List ℕ) : Type 0 where
+pub record DepthsNoted (order trail : List ℕ) (n k : ℕ) (depths : List ℕ) : Type 0 where
   pub found : (j : ℕ) → j < k → byte depths (byte order j) ≡ suc (length (historyAt trail j))
   pub others : (s : ℕ) → 1 ≤ s → s < length depths → ((j : ℕ) → j < n → byte order j ≡ s → ⊥) → byte depths s ≡ 0
 
 -- the depths of all states of a book
 abbrev pub DepthsOf : List ℕ → List ℕ → Type 0
 DepthsOf b depths = (s : ℕ) → 1 ≤ s → s ≤ states b → byte depths s ≡ depthOf (firstThat (eqb s) (statesReached b))
-
--- ---- lines
-abbrev pub depthColumns : ℕ → List ℕ
-depthColumns zero = dashes
-depthColumns (suc k) = threeColumns k
-
--- the letter of a request by its two entries, and that of request r where a row's entries of requests begin
-abbrev pub letterBy : ℕ → ℕ → ℕ
-letterBy accept reject = letter (toTelling (isState accept) (isState reject))
-
-abbrev pub letterIn : List ℕ → ℕ → ℕ
-letterIn row r = letterBy (byte row (2 * r)) (byte row (2 * r + 1))
-
--- the line of state s by its depth
-abbrev pub lineOf : List ℕ → ℕ → ℕ → List ℕ
-lineOf b s depth = threeColumns s ++ (blank ∷ (depthColumns depth ++ (blank ∷ (listBelow 64 (requestColumn b s) ++ (newline ∷ [])))))

@@ -7,14 +7,14 @@ ghost use Rattle.definitions.specs.Bytes.{byte};
 ghost use Rattle.definitions.specs.Book as Book;
 ghost use Rattle.definitions.specs.Checked.{BookPassed};
 ghost use Rattle.search.specs.Found.{EmptyArrays};
-ghost use Rattle.page.specs.Depths.{Places, CanNote, depthFrom, Noted, DepthsOf};
+ghost use Rattle.page.specs.Depths.{SearchedPlaces, CanNoteDepth, depthFrom, DepthsNoted, DepthsOf};
 use automaton::wide;
 use book::states;
 use search::explore_book;
 
 // Notes the depth of the state at place k, from that of the state that it was found from.
 fn note_depth(order: &[u8], trail: &[u8], k: usize, depths: &mut [u8])
-    requires { ⌜ CanNote (now order) (now trail) k (now depths) ⌝ }
+    requires { ⌜ CanNoteDepth (now order) (now trail) k (now depths) ⌝ }
     ensures { λ _. ⌜ now (depths .exit) ≡ set (now (depths .entry)) (byte (now (order .entry)) k) (depthFrom (now (order .entry)) (now (trail .entry)) k (now (depths .entry))) ⌝ }
 {
     let parent = wide(trail[2 * k]);
@@ -24,8 +24,8 @@ fn note_depth(order: &[u8], trail: &[u8], k: usize, depths: &mut [u8])
 
 // Notes the depths of the `n` states in `order`, found by a search.
 fn note_depths(order: &[u8], trail: &[u8], n: usize, depths: &mut [u8])
-    requires { ⌜ Places (now order) (now trail) n (length (now depths)) × (1 ≤ n) × Noted (now order) (now trail) n 0 (now depths) ⌝ }
-    ensures { λ _. ⌜ Noted (now (order .entry)) (now (trail .entry)) n n (now (depths .exit)) ⌝ }
+    requires { ⌜ SearchedPlaces (now order) (now trail) n (length (now depths)) × (1 ≤ n) × DepthsNoted (now order) (now trail) n 0 (now depths) ⌝ }
+    ensures { λ _. ⌜ DepthsNoted (now (order .entry)) (now (trail .entry)) n n (now (depths .exit)) ⌝ }
 {
     depths[wide(order[0])] = 1;
     let mut k = 1;

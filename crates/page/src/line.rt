@@ -10,7 +10,7 @@ ghost use Rattle.definitions.specs.Checked.{BookPassed};
 ghost use Rattle.definitions.specs.Page.{threeColumns, requestColumn};
 ghost use Rattle.definitions.specs.Shelf.{blank};
 ghost use Rattle.text.specs.Put.{Put};
-ghost use Rattle.page.specs.Depths.{depthColumns, letterBy, letterIn, lineOf};
+ghost use Rattle.page.specs.LineColumns.{depthColumns, letterBy, letterIn, lineOf};
 use book::events;
 use text::put;
 use text::put_byte;

@@ -7,7 +7,7 @@ use native.Mathlib.Omega.{arith}
 use lib.ListN.{length, getD, set, length-set, getD-replicate}
 use lib.Seq.{getD-set-same, getD-set-other}
 use borrow.Author.Tests.{ne-eqb}
-use Rattle.automaton.specs.Machine.{Machine, step}
+use Rattle.automaton.specs.Machine.{Machine}
 use Rattle.automaton.specs.Explore.{Reached, add, visit, unreached, startOf, reached}
 use Rattle.automaton.proofs.Explore.{Front, front-at, front-length, visit-front}
 use Rattle.automaton.proofs.Parents.{trail-start}

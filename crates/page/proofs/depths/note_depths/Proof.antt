@@ -3,14 +3,14 @@ use mathlib.Core.Path.{_≡_, refl, sym, _∙_}
 use Prim.Native.Nat.{_-_, _≤_}
 use native.Mathlib.Omega.{arith}
 use lib.ListN.{length, length-set}
-use Rattle.page.specs.Depths.{Places, Noted}
+use Rattle.page.specs.Depths.{SearchedPlaces, DepthsNoted}
 use Rattle.page.proofs.NotedDepths.{places-same, noted-first, can-note, noted-next}
 use borrow.Author.Needs.{needs}
 use Rattle.page.proofs.depths.note_depths.Statement.{statement}
 use Rattle.page.proofs.depths.note_depths.Tie as tie
 
 abbrev Inv-loop : tie.InvT-loop
-Inv-loop order trail n depths₀ k₀ depths k = (1 ≤ k) × (k ≤ n) × (length depths ≡ length depths₀) × Noted order trail n k depths
+Inv-loop order trail n depths₀ k₀ depths k = (1 ≤ k) × (k ≤ n) × (length depths ≡ length depths₀) × DepthsNoted order trail n k depths
 
 abbrev μ-loop : tie.MeasureT-loop
 μ-loop order trail n depths₀ k₀ depths k = n - k

@@ -5,7 +5,7 @@ use native.Mathlib.Omega.{arith}
 use lib.ListN.{length, length-set}
 use Rattle.automaton.specs.Below.{listBelow}
 use Rattle.text.specs.Put.{Put}
-use Rattle.page.specs.Depths.{letterIn}
+use Rattle.page.specs.LineColumns.{letterIn}
 use Rattle.page.proofs.Columns.{column-turn}
 use borrow.Author.Needs.{needs}
 use Rattle.page.proofs.line.put_letters.Statement.{statement}
