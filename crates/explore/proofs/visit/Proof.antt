@@ -97,7 +97,9 @@ returns : tie.Need-returns Inv-loop μ-loop
 returns c =
     let p = c .before .before .before .before .before .before in
     let e = c .before .greater .ensures in
-    (λ start. rw e (tried-over (tried (c .before .before .before .before .before .before .before .before .before .before .before) start) (c .before .before .before .before .before .before .before .before .before .before .loop-test .taken) (led (c .before .before .before .before .before .before .before .before .before .before) start) (p .note .ensures .0) (p .note .ensures .1 .0) (omega arith)), λ few. absurd (omega arith))
+    let at = c .before .before .before .before .before .before .before .before .before .before .before in
+    let test = c .before .before .before .before .before .before .before .before .before .before in
+    (λ start. rw e (tried-over (tried at start) (test .loop-test .taken) (led test start) (p .note .ensures .0) (p .note .ensures .1 .0) (omega arith)), λ few. absurd (omega arith))
 
 add-c : tie.Need-add-c Inv-loop μ-loop
 add-c c = search needs
