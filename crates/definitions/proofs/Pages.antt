@@ -1,13 +1,13 @@
 -- The page of a book that passes, built here or not, is right: each line shows the length of the earliest history that leads to its state, dashes exactly where
--- none does, and what may happen to each request after any that does. It ends in page-right.
+-- none does, and what may happen to each request after any that does. It ends in page-right and page-fits.
 use mathlib.Core.Path.{_≡_, refl, sym, ap, _∙_}
 use mathlib.Core.List.{List, [], append-nil}
 use mathlib.Core.Option.{Option, none, some}
 use Prim.Native.Nat.{ℕ, zero, suc, _+_, _-_, _*_, _≤_, _<_}
 use native.Mathlib.Omega.{arith}
-use lib.Dec.{eqb}
+use lib.Dec.{eqb, leb}
 use lib.ListN.{length, getD, take, drop}
-use borrow.Author.Tests.{eqb-true, eq-eqb, lt-ltb, le-ltb}
+use borrow.Author.Tests.{eqb-true, eq-eqb, lt-ltb, le-ltb, leb-true}
 use Rattle.automaton.specs.History.{History, Earliest}
 use Rattle.automaton.specs.Machine.{after}
 use Rattle.automaton.specs.Explore.{Reached, firstThat}
@@ -19,8 +19,9 @@ use Rattle.definitions.specs.Refusal.{bookRefusal}
 use Rattle.definitions.specs.Checked.{BookPassed}
 use Rattle.definitions.specs.Telling.{toTelling, telling}
 use Rattle.definitions.specs.Verdict.{statesReached}
-use Rattle.definitions.specs.Page.{threeColumns, dashes, lengthColumns, letter, pageLine, pageLines, page}
+use Rattle.definitions.specs.Page.{threeColumns, dashes, lengthColumns, letter, pageLine, pageLines, page, pageRefusal}
 use Rattle.definitions.specs.Demands.{accepts, rejects, LeadsTo, StateOf, LineIsRight, PageIsRight}
+use Rattle.definitions.proofs.Tests.{judge-zero}
 use Rattle.definitions.proofs.Accepted.{book-passed}
 use Rattle.definitions.proofs.BlockedHistories.{code-at}
 use Rattle.definitions.proofs.RowsWritten.{row-of-concat}
@@ -111,3 +112,11 @@ page-right b passes =
         let back : suc i - 1 ≡ i = omega arith in
         let here : take 73 (drop (i * 73) (page b)) ≡ pageLine b (statesReached b) (suc i) = line-of b i (of .1) in
         rw (back, here) (line-right b ok (suc i) (of .0))
+
+-- a buffer that row 1 lets pass has room for the page
+pub page-fits : (b buffer : List ℕ) → pageRefusal b buffer ≡ 0 → length (page b) ≤ length buffer
+unfolding pageRefusal
+page-fits b buffer passes =
+    let rows = judge-zero 0 (leb 9271 (length buffer)) (bookRefusal b) .0 passes in
+    let right = page-right b (rows .1) in
+    omega (arith, right .size, right .room, leb-true 9271 (length buffer) (rows .0))

@@ -53,6 +53,16 @@ pageForeign =
     lineWith (32 ∷ 32 ∷ 49 ∷ 32 ∷ 32 ∷ 32 ∷ 48 ∷ 32 ∷ []) (65 ∷ 82 ∷ 66 ∷ []) ++ lineWith (32 ∷ 32 ∷ 50 ∷ 32 ∷ 32 ∷ 32 ∷ 49 ∷ 32 ∷ []) (46 ∷ 46 ∷ 65 ∷ [])
     ++ lineWith (32 ∷ 32 ∷ 51 ∷ 32 ∷ 32 ∷ 32 ∷ 49 ∷ 32 ∷ []) (66 ∷ 46 ∷ 46 ∷ []) ++ lineWith (32 ∷ 32 ∷ 52 ∷ 32 ∷ 45 ∷ 45 ∷ 45 ∷ 32 ∷ []) (82 ∷ 65 ∷ 66 ∷ [])
 
+-- a book whose states are not numbered by their earliest histories
+abbrev misnumbered : List ℕ
+misnumbered = 0x42 ∷ 0x4F ∷ 0x4B ∷ 0 ∷ 1 ∷ 0 ∷ 1 ∷ 1 ∷ 0 ∷ 0 ∷ 0 ∷ 3 ∷ 3 ∷ 0 ∷ 0 ∷ 2 ∷ 2 ∷ 0 ∷ []
+
+-- "  1   0 A", "  2   2 R", "  3   1 A"
+abbrev pageMisnumbered : List ℕ
+pageMisnumbered =
+    lineWith (32 ∷ 32 ∷ 49 ∷ 32 ∷ 32 ∷ 32 ∷ 48 ∷ 32 ∷ []) (65 ∷ []) ++ lineWith (32 ∷ 32 ∷ 50 ∷ 32 ∷ 32 ∷ 32 ∷ 50 ∷ 32 ∷ []) (82 ∷ [])
+    ++ lineWith (32 ∷ 32 ∷ 51 ∷ 32 ∷ 32 ∷ 32 ∷ 49 ∷ 32 ∷ []) (65 ∷ [])
+
 -- a book of 101 states in a chain, with one request: accepted on the way, rejected at the end
 abbrev onTheWay : ℕ → List ℕ
 onTheWay i = suc (suc i) ∷ 0 ∷ []
@@ -78,6 +88,7 @@ pageCases =
     ∷ bytes (page (bookOf (policyE 0))) pageE
     ∷ bytes (page (bookOf policyG)) pageG
     ∷ bytes (page foreign) pageForeign
+    ∷ bytes (page misnumbered) pageMisnumbered
     -- numbers of two and three digits
     ∷ bytes (linesOf (10 ∷ 11 ∷ 100 ∷ 101 ∷ []) (page chain)) linesOfChain
     -- 64 requests
