@@ -41,10 +41,12 @@ abbrev pub requestColumn : List ℕ → ℕ → ℕ → ℕ
 requestColumn b s r = let told = letter (T.telling b s r) in cond (ltb r (requests b)) told blank
 
 -- ---- lines
--- the line of state s: "Each line is 72 columns and the byte 10"
+-- the line of state s with these columns for its length: "Each line is 72 columns and the byte 10"
+abbrev pub lineWith : List ℕ → ℕ → List ℕ → List ℕ
+lineWith b s lengthText = threeColumns s ++ (blank ∷ (lengthText ++ (blank ∷ (listBelow 64 (requestColumn b s) ++ (newline ∷ [])))))
+
 abbrev pub pageLine : List ℕ → List Reached → ℕ → List ℕ
-pageLine b found s =
-    threeColumns s ++ (blank ∷ (lengthColumns (firstThat (eqb s) found) ++ (blank ∷ (listBelow 64 (requestColumn b s) ++ (newline ∷ [])))))
+pageLine b found s = lineWith b s (lengthColumns (firstThat (eqb s) found))
 
 -- the line after i others
 abbrev pub lineAfter : List ℕ → List Reached → ℕ → List ℕ

@@ -46,15 +46,15 @@ module _ (p buffer : List ℕ) where
 
 -- ---- page
 module _ (b buffer : List ℕ) where
-  page-fits : pageRefusal b buffer ≡ 0 → states b * 73 ≤ 9271
+  page-small : pageRefusal b buffer ≡ 0 → states b * 73 ≤ 9271
   unfolding pageRefusal
-  page-fits e = page-right b (judge-zero 0 (leb 9271 (length buffer)) (bookRefusal b) .0 e .1) .room
+  page-small e = page-right b (judge-zero 0 (leb 9271 (length buffer)) (bookRefusal b) .0 e .1) .room
 
   page-given : (n : ℕ) → given n ≡ pageAnswer b buffer → n ≤ 9271
   unfolding pageAnswer
   page-given n e =
       let is = answer-given (pageRefusal b buffer) n (states b * 73) e in
-      subst⁻¹ (λ (k : ℕ). k ≤ 9271) (is .1) (page-fits (is .0))
+      subst⁻¹ (λ (k : ℕ). k ≤ 9271) (is .1) (page-small (is .0))
 
   pub paged-within : (r : Paged) → pagedAnswer r ≡ pageAnswer b buffer → PagedWithin 9271 r
   paged-within (Paged.Refused number) e = tt

@@ -1,12 +1,10 @@
 -- The columns of a line, as the code takes them: a length by its state's depth, a letter by two entries of a row.
-use mathlib.Core.List.{List, [], _∷_, _++_}
+use mathlib.Core.List.{List}
 use Prim.Native.Nat.{ℕ, zero, suc, _+_, _*_}
-use Rattle.automaton.specs.Below.{listBelow}
 use Rattle.automaton.specs.Machine.{isState}
 use Rattle.definitions.specs.Bytes.{byte}
-use Rattle.definitions.specs.Page.{threeColumns, dashes, letter, requestColumn}
+use Rattle.definitions.specs.Page.{threeColumns, dashes, letter, lineWith}
 use Rattle.definitions.specs.Telling.{toTelling}
-use Rattle.definitions.specs.Shelf.{blank, newline}
 
 abbrev pub depthColumns : ℕ → List ℕ
 depthColumns zero = dashes
@@ -21,4 +19,4 @@ letterIn row r = letterBy (byte row (2 * r)) (byte row (2 * r + 1))
 
 -- the line of state s by its depth
 abbrev pub lineOf : List ℕ → ℕ → ℕ → List ℕ
-lineOf b s depth = threeColumns s ++ (blank ∷ (depthColumns depth ++ (blank ∷ (listBelow 64 (requestColumn b s) ++ (newline ∷ [])))))
+lineOf b s depth = lineWith b s (depthColumns depth)
