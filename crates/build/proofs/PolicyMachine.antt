@@ -18,7 +18,7 @@ use Rattle.automaton.proofs.Congruence.{fold-below-same, reached-same, table-sa
 
 module _ (p images : List ℕ) (are : ImagesOf p images) where
   abbrev m : Machine
-  m = imagesMachine images (valuations p) (width p) startSituation
+  m = imagesMachine images (valuations p) (width p) (startSituation p)
 
   next-same : (set c : ℕ) → c < width p → imageOfSetIn images (valuations p) (width p) set c ≡ imageOfSet p set c
   next-same set c l =

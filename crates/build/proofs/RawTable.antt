@@ -26,6 +26,7 @@ use Rattle.explore.specs.SetImages.{imagesMachine}
 use Rattle.images.specs.Images.{ImagesOf}
 use Rattle.explore.specs.Reaches.{allReached, Reaches}
 use Rattle.definitions.specs.Rows.{rowsIn, TableIn}
+use Rattle.definitions.proofs.Steps.{start-is-state}
 use Rattle.definitions.proofs.Written.{length-written}
 use Rattle.definitions.proofs.BookBytes.{length-concat}
 use Rattle.definitions.proofs.RowsWritten.{rows-of-concat}
@@ -126,7 +127,7 @@ pub record SituationRows (p raw : List ℕ) (n : ℕ) : Type 0 where
 
 module _ (p images : List ℕ) (are : ImagesOf p images) where
   abbrev m : Machine
-  m = imagesMachine images (valuations p) (width p) startSituation
+  m = imagesMachine images (valuations p) (width p) (startSituation p)
 
   situations-are : allReached m ≡ situations p
   unfolding allReached situations
@@ -134,15 +135,15 @@ module _ (p images : List ℕ) (are : ImagesOf p images) where
 
   module _ {found raw : List ℕ} {n : ℕ} {found′ raw′ : List ℕ} (long : 127 * width p ≤ length raw) (reaches : Reaches m found raw n found′ raw′) where
     pub situations-over : n ≡ 0 → 127 < length (situations p)
-    situations-over e = rw situations-are at (explored-over m refl long reaches e)
+    situations-over e = rw situations-are at (explored-over m (start-is-state p) long reaches e)
 
     pub situation-rows : (n ≡ 0 → ⊥) → SituationRows p raw′ n
     situation-rows some =
-        let n-is = explored-count m refl long reaches some in
+        let n-is = explored-count m (start-is-state p) long reaches some in
         record {
           few = n-is .1;
-          isTable = explored-table m refl long reaches some;
-          ordered = explored-ordered m refl long reaches some;
+          isTable = explored-table m (start-is-state p) long reaches some;
+          ordered = explored-ordered m (start-is-state p) long reaches some;
           count = omega (arith, n-is, ap length situations-are);
-          rows = explored-rows m refl long reaches some ∙ table-policy p images are (allReached m) ∙ ap (table (policyMachine p)) situations-are;
+          rows = explored-rows m (start-is-state p) long reaches some ∙ table-policy p images are (allReached m) ∙ ap (table (policyMachine p)) situations-are;
         }

@@ -74,7 +74,7 @@ fn build_in(policy: &[u8], book: &mut [u8], images: &mut [u64], raw: &mut [u8]) 
     let shape = Shape::of(policy);
     let w = shape.width;
     images::fill_images(policy, shape, images);
-    let start = Situation::start();
+    let start = Situation::start(shape.start);
     let n = explore::explore(images, shape.valuations, w, start, &mut found, raw);
     if n == 0 {
         return Built::Refused(11);

@@ -11,11 +11,11 @@ use lib.ListN.{length}
 use borrow.Author.Tests.{leb-true, ltb-true, eqb-true, le-leb, lt-leb, lt-ltb, le-ltb, eq-eqb}
 use Rattle.automaton.specs.Below.{allBelow}
 use Rattle.automaton.proofs.Below.{and-true, or-true, all-below, all-below-at}
-use Rattle.definitions.specs.Bytes.{byte, hasMark, hasVersion1}
-use Rattle.definitions.specs.Policy.{events, fields, variables, rules, count, requests, width, exactLength, rule, mask, decision, ge, lt, change, eventChange}
+use Rattle.definitions.specs.Bytes.{byte, version, hasMark}
+use Rattle.definitions.specs.Policy.{events, fields, variables, rules, count, requests, width, startingValue, exactLength, rule, mask, decision, ge, lt, change, eventChange}
 use Rattle.definitions.specs.Valuation.{valuations}
 use Rattle.definitions.specs.Book as B
-use Rattle.definitions.specs.Refusal.{rangesHold, countInRange, countsHold, rulePasses, allRules, maskHolds, ruleMasksHold, masksHold, testHolds, ruleHolds, eventChangeHolds, eventHolds, valuesHold, fileChecks, fileRefusal, situations, row11, policyRefusal, countHolds, headerHolds, layoutHolds, entryHolds, rowHolds, entriesHold, bookChecks, bookRefusal}
+use Rattle.definitions.specs.Refusal.{versionHolds, rangesHold, countInRange, countsHold, startHolds, startsHold, rulePasses, allRules, maskHolds, ruleMasksHold, masksHold, testHolds, ruleHolds, eventChangeHolds, eventHolds, valuesHold, fileChecks, fileRefusal, situations, row11, policyRefusal, countHolds, headerHolds, layoutHolds, entryHolds, rowHolds, entriesHold, bookChecks, bookRefusal}
 use Rattle.definitions.proofs.Tests.{both-true, judge-zero, then-judge-zero, within-true, mark-true, version-true}
 use Rattle.definitions.proofs.CheckLists.{PassedBefore, rowTest, row-passes, rows-from}
 use Rattle.definitions.proofs.Radix.{product-some}
@@ -27,7 +27,7 @@ use Rattle.definitions.specs.Checked.{BookHeader, BookLayout, BookPassed
 pub record FileAccepted (p : List ℕ) : Type 0 where
   pub long : 9 ≤ length p
   pub mark : (byte p 0 ≡ 0x50) × (byte p 1 ≡ 0x4F) × (byte p 2 ≡ 0x4C)
-  pub version : (byte p 3 ≡ 0) × (byte p 4 ≡ 1)
+  pub version : (byte p 3 ≡ 0) × ((byte p 4 ≡ 1) ⊎ (byte p 4 ≡ 2))
   pub eventsMost : events p ≤ 8
   pub fieldsSome : 1 ≤ fields p
   pub fieldsMost : fields p ≤ 4
@@ -40,6 +40,7 @@ pub record FileAccepted (p : List ℕ) : Type 0 where
   pub requestsSome : 1 ≤ requests p
   pub requestsMost : requests p ≤ 64
   pub widthMost : width p ≤ 136
+  pub startMost : (j : ℕ) → j < variables p → startingValue p j ≤ 63
   pub maskSome : (k f : ℕ) → k < rules p → f < fields p → 1 ≤ mask (rule p k) f
   pub maskMost : (k f : ℕ) → k < rules p → f < fields p → mask (rule p k) f < 2 ^ count p f
   pub decisionMost : (k : ℕ) → k < rules p → decision p (rule p k) ≤ 1
@@ -52,7 +53,14 @@ pub record FileAccepted (p : List ℕ) : Type 0 where
 
 -- ---- policies
 module _ (p : List ℕ) where
-  -- ---- what the tests of rows 5 to 9 say
+  -- ---- what the tests of rows 4 to 9 and 17 say
+  version-holds : versionHolds p ≡ true → (byte p 3 ≡ 0) × ((byte p 4 ≡ 1) ⊎ (byte p 4 ≡ 2))
+  version-holds e = go (or-true (eqb (version p) 1) (eqb (version p) 2) e)
+    where
+      go : (eqb (version p) 1 ≡ true) ⊎ (eqb (version p) 2 ≡ true) → (byte p 3 ≡ 0) × ((byte p 4 ≡ 1) ⊎ (byte p 4 ≡ 2))
+      go (inl h) = let both = version-true p 1 (omega arith) .0 h in (both .0, inl (both .1))
+      go (inr h) = let both = version-true p 2 (omega arith) .0 h in (both .0, inr (both .1))
+
   pub ranges-true : rangesHold p ≡ true → (events p ≤ 8) × (1 ≤ fields p) × (fields p ≤ 4) × (variables p ≤ 4) × (1 ≤ rules p) × (rules p ≤ 32)
   ranges-true e =
       let three = and-true _ _ e in
@@ -66,6 +74,9 @@ module _ (p : List ℕ) where
   counts-true e =
       let both = and-true _ _ e in
       (λ f l. within-true 1 (count p f) 16 .0 (all-below-at (countInRange p) (fields p) (both .0) f l), leb-true (requests p) 64 (both .1))
+
+  pub starts-true : startsHold p ≡ true → (j : ℕ) → j < variables p → startingValue p j ≤ 63
+  starts-true e j l = leb-true (startingValue p j) 63 (all-below-at (startHolds p) (variables p) e j l)
 
   pub masks-true : masksHold p ≡ true → (k f : ℕ) → k < rules p → f < fields p → (1 ≤ mask (rule p k) f) × (mask (rule p k) f < 2 ^ count p f)
   masks-true e k f lk lf =
@@ -101,7 +112,7 @@ module _ (p : List ℕ) where
       record {
         long = leb-true 9 (length p) (passes 2);
         mark = mark-true p 0x50 0x4F 0x4C .0 (passes 3);
-        version = version-true p .0 (passes 4);
+        version = version-holds (passes 4);
         eventsMost = ranges .0;
         fieldsSome = ranges .1;
         fieldsMost = ranges .2;
@@ -114,6 +125,7 @@ module _ (p : List ℕ) where
         requestsSome = some-request p (λ f l. counts .0 f l .0);
         requestsMost = counts .1;
         widthMost = omega (arith, ranges .0, counts .1);
+        startMost = starts-true (passes 17);
         maskSome = λ k f lk lf. masks-true (passes 8) k f lk lf .0;
         maskMost = λ k f lk lf. masks-true (passes 8) k f lk lf .1;
         decisionMost = λ k l. rule-true (passes 9) k l .0;
@@ -227,7 +239,7 @@ module _ (b : List ℕ) where
       record {
         long = leb-true 12 (length b) (begins .0);
         mark = mark-true b 0x42 0x4F 0x4B .0 (begins .1);
-        version = version-true b .0 (head .1);
+        version = version-true b 1 (omega arith) .0 (head .1);
         layout = layout-true (passes 13);
         entryMost = λ s c some most l. entries-true (passes 14) s c some most l .0;
         eventEntrySome = λ s c some most l. entries-true (passes 14) s c some most (omega arith) .1 l;
@@ -236,7 +248,7 @@ module _ (b : List ℕ) where
   passes : BookPassed b → bookRefusal b ≡ 0
   unfolding bookRefusal
   passes h =
-      let begins = both-true (both-true (le-leb 12 (length b) (h .long)) (mark-true b 0x42 0x4F 0x4B .1 (h .mark))) (version-true b .1 (h .version)) in
+      let begins = both-true (both-true (le-leb 12 (length b) (h .long)) (mark-true b 0x42 0x4F 0x4B .1 (h .mark))) (version-true b 1 (omega arith) .1 (h .version)) in
       let each : PassedBefore 0 bookChecks b =
       record { passed = (((tt, begins), layout-holds (h .layout)), entries-hold (h .entryMost) (h .eventEntrySome)) } in
       rows-from each

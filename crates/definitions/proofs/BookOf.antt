@@ -23,7 +23,7 @@ use Rattle.definitions.specs.Build.{bookRows, bookOf}
 use Rattle.definitions.proofs.Accepted.{FileAccepted, file-accepted, policy-accepted, book-passed}
 use Rattle.definitions.specs.Checked.{BookHeader, BookLayout, BookPassed}
 use Rattle.definitions.proofs.BookBytes.{states-of-bytes, length-of-bytes, entry-of-bytes, after-of-bytes, policy-count, policy-requests, policy-width}
-use Rattle.definitions.proofs.Steps.{start-below, after-below, event-possible}
+use Rattle.definitions.proofs.Steps.{start-below, start-is-state, after-below, event-possible}
 
 -- ---- a tidy table of a machine
 module _ (w : ℕ) (m : Machine) (rows : List (List ℕ)) (t : TidyTableOf w m rows) where
@@ -96,17 +96,17 @@ module _ (p : List ℕ) (accepted : Accepted p) where
 
   pub rows-tidy : TidyTableOf (P.width p) (policyMachine p) (bookRows p)
   unfolding bookRows situations
-  rows-tidy = built (policyMachine p) 127 refl few
+  rows-tidy = built (policyMachine p) 127 (start-is-state p) few
 
   rows-few : length (bookRows p) ≤ 127
   unfolding bookRows situations
-  rows-few = le-trans (built-length (policyMachine p) 127 refl few) few
+  rows-few = le-trans (built-length (policyMachine p) 127 (start-is-state p) few) few
 
   -- an event is possible after every history that is
   event-always : (e : ℕ) → e < P.events p → (h : History) → possible (policyMachine p) h ≡ true → possible (policyMachine p) (h ++ (e ∷ [])) ≡ true
   event-always e l h q =
-      ap isState (after-append (policyMachine p) startSituation h (e ∷ []))
-      ∙ event-possible p (after (policyMachine p) startSituation h) e q (after-below p startSituation (start-below p) h) l
+      ap isState (after-append (policyMachine p) (startSituation p) h (e ∷ []))
+      ∙ event-possible p (after (policyMachine p) (startSituation p) h) e q (after-below p (startSituation p) (start-below p) h) l
 
   event-entry : (s e : ℕ) → 1 ≤ s → s ≤ length (bookRows p) → e < P.events p → 1 ≤ entryIn (bookRows p) s e
   event-entry s e some most l =
@@ -154,7 +154,7 @@ module _ (p q : List ℕ) (first : Accepted p) (second : Accepted q) (frames : P
 
   rows-same : SameHistories (policyMachine p) (policyMachine q) → bookRows p ≡ bookRows q
   unfolding bookRows situations
-  rows-same = built-unique (policyMachine p) (policyMachine q) widths-same 127 refl refl (few p first) (few q second)
+  rows-same = built-unique (policyMachine p) (policyMachine q) widths-same 127 (start-is-state p) (start-is-state q) (few p first) (few q second)
 
   pub books-same : SameHistories (policyMachine p) (policyMachine q) → bookOf p ≡ bookOf q
   unfolding bookOf

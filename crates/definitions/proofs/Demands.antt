@@ -1,6 +1,6 @@
--- The owner's demands 2 and 3, the states of the book of a policy, row 11 and the levels, and what verdict, compare and the page owe for any book. No theorem here
--- has a hypothesis beyond this: the policies are accepted, or for row 11 rows 2 to 10 let the file pass, or the books pass the checks and, where two are compared, have
--- one frame.
+-- The owner's demands 2 and 3, the states of the book of a policy, the start, row 11 and the levels, and what verdict, compare and the page owe for any book. No
+-- theorem here has a hypothesis beyond this: the policies are accepted, or for row 11 and for the starts the rows before row 11 let the files pass, or the books pass
+-- the checks and, where two are compared, have one frame.
 use mathlib.Core.Path.{_≡_, sym, ap, _∙_, subst₂}
 use mathlib.Core.List.{List}
 use Prim.Native.Nat.{ℕ}
@@ -24,6 +24,10 @@ pub use Rattle.definitions.proofs.Comparisons.{compare-right}
 pub use Rattle.definitions.proofs.Pages.{page-right}
 -- states-right : (p : List ℕ) → Accepted p → StatesAreRight (policyMachine p) (bookOf p)
 pub use Rattle.definitions.proofs.BookStates.{states-right}
+-- start-right : (p : List ℕ) → StartIsRight p
+pub use Rattle.definitions.proofs.StartSituation.{start-right}
+-- starts-right : (p q : List ℕ) → fileRefusal p ≡ 0 → fileRefusal q ≡ 0 → SameRules p q → StartsAreRight p q
+pub use Rattle.definitions.proofs.SameRules.{starts-right}
 -- row11-right : (p : List ℕ) → fileRefusal p ≡ 0 → Row11IsRight p
 pub use Rattle.definitions.proofs.Row11.{row11-right}
 -- levels-right : (p : List ℕ) → LevelsAreRight p

@@ -9,6 +9,8 @@ pub mod Requests
 pub mod Valuations
 pub mod Sets
 pub mod Steps
+pub mod Starts
+pub mod StartSituation
 pub mod Levels
 pub mod Accepted
 pub mod Row11
@@ -23,6 +25,7 @@ pub mod Comparisons
 pub mod SameHistories
 pub mod BookOf
 pub mod BookStates
+pub mod SameRules
 pub mod Demands
 pub mod Calls
 pub mod ShelfText

@@ -1,6 +1,6 @@
 -- Row 11 by histories: a file that rows 2 to 10 let pass is refused by row 11 exactly when 128 possible histories lead to situations no two of which
 -- are equal.
-use mathlib.Core.Path.{_≡_, refl}
+use mathlib.Core.Path.{_≡_}
 use mathlib.Core.Logic.{_↔_}
 use mathlib.Core.List.{List}
 use Prim.Native.Nat.{ℕ, _<_}
@@ -13,11 +13,12 @@ use Rattle.definitions.specs.Situation.{policyMachine}
 use Rattle.definitions.specs.Refusal.{fileRefusal, situations, row11, policyRefusal}
 use Rattle.definitions.specs.Demands.{Row11IsRight}
 use Rattle.definitions.proofs.Tests.{judge-last}
+use Rattle.definitions.proofs.Steps.{start-is-state}
 
 module _ (p : List ℕ) where
   situations-over : (127 < length (situations p)) ↔ DistinctStates (policyMachine p) 128
   unfolding situations
-  situations-over = reached-over (policyMachine p) 127 refl
+  situations-over = reached-over (policyMachine p) 127 (start-is-state p)
 
   row11-over : fileRefusal p ≡ 0 → (policyRefusal p ≡ 11) ↔ (127 < length (situations p))
   unfolding policyRefusal row11

@@ -3,6 +3,7 @@
 use mathlib.Core.Path.{_≡_, refl, ap, sym, _∙_}
 use mathlib.Core.Bool.{Bool, cond, true, false, not, true≢false, false≢true, or-false, _&&_, _||_}
 use mathlib.Core.Logic.{_↔_, _⊎_, inl, inr}
+use mathlib.Core.List.{List}
 use Prim.Native.Nat.{ℕ, zero, suc, _+_, _-_, _*_, _/_, _%_, _^_, _<_, max}
 use native.Mathlib.Nat.{zero-div, one-mul, pow-suc, div-eq-of-lt, div-self}
 use native.Mathlib.Omega.{arith}
@@ -83,11 +84,11 @@ has-insert v set u = (λ h. into (or-true (bit set u) (eqb u v) (sym (bit-insert
     back false q (inr h) = absurd (false≢true (sym q ∙ h))
 
 -- the start has its valuation alone
-pub bit-start : (u : ℕ) → bit startSituation u ≡ eqb u startValuation
-bit-start u = bit-insert startValuation emptySet u ∙ ap (λ (b : Bool). b || eqb u startValuation) (bit-empty u)
+pub bit-start : (p : List ℕ) (u : ℕ) → bit (startSituation p) u ≡ eqb u (startValuation p)
+bit-start p u = bit-insert (startValuation p) emptySet u ∙ ap (λ (b : Bool). b || eqb u (startValuation p)) (bit-empty u)
 
-pub start-has : (u : ℕ) → Has startSituation u ↔ (u ≡ startValuation)
-start-has u = (λ h. eqb-true u startValuation (sym (bit-start u) ∙ h), λ e. bit-start u ∙ eq-eqb u startValuation e)
+pub start-has : (p : List ℕ) (u : ℕ) → Has (startSituation p) u ↔ (u ≡ startValuation p)
+start-has p u = (λ h. eqb-true u (startValuation p) (sym (bit-start p u) ∙ h), λ e. bit-start p u ∙ eq-eqb u (startValuation p) e)
 
 -- ---- sets of valuations below n are the numbers below 2 ^ n
 pub union-below : (n a b : ℕ) → a < 2 ^ n → b < 2 ^ n → union a b < 2 ^ n

@@ -15,13 +15,13 @@ use Rattle.automaton.specs.Machine.{Machine, step, after, isState}
 use Rattle.automaton.proofs.Below.{and-true, all-below, all-below-at, any-below, any-below-at}
 use Rattle.automaton.proofs.Machine.{step-past, after-keeps}
 use Rattle.definitions.specs.Policy.{events, fields, variables, rules, width, rule, mask, decision, level, ge, lt, change, eventChange, value}
-use Rattle.definitions.specs.Valuation.{valuations, variableIn, byRule, byEvent}
+use Rattle.definitions.specs.Valuation.{valuations, startValuation, variableIn, byRule, byEvent}
 use Rattle.definitions.specs.Situation.{maskLets, letsThrough, isBelow, testPasses, enabled, fits, outranks, outranked, applies, startSituation, decides, requestImage, image, imageOfSet, policyMachine}
 use Rattle.definitions.specs.Codes.{requestOf, decisionOf}
 use Rattle.definitions.specs.Bytes.{bit}
 use Rattle.definitions.proofs.Tests.{both-true}
-use Rattle.definitions.proofs.Valuations.{some-valuation, carried-out-below}
-use Rattle.definitions.proofs.Sets.{Has, has-single, has-state, state-has, gathered-below, has-gathered}
+use Rattle.definitions.proofs.Valuations.{start-valuation-below, carried-out-below}
+use Rattle.definitions.proofs.Sets.{Has, has-single, start-has, has-state, state-has, gathered-below, has-gathered}
 
 -- rule q's masks let request r through, and its tests are true in valuation v
 pub record RuleFits (p q : List ℕ) (r v : ℕ) : Type 0 where
@@ -186,8 +186,11 @@ module _ (p : List ℕ) where
       go (yes l) = rw (step-next (policyMachine p) (suc set) c refl l) (image-of-set-below (suc set) c)
       go (no l) = rw (step-past (policyMachine p) (suc set) c (omega arith)) (pow-pos (valuations p))
 
-  pub start-below : startSituation < 2 ^ valuations p
-  start-below = pow-lt (some-valuation p)
+  pub start-below : startSituation p < 2 ^ valuations p
+  start-below = pow-lt (start-valuation-below p)
+
+  pub start-is-state : isState (startSituation p) ≡ true
+  start-is-state = has-state (startSituation p) (startValuation p) (start-has p (startValuation p) .1 refl)
 
   -- every history leads to a set of valuations
   pub after-below : (set : ℕ) → set < 2 ^ valuations p → (h : History) → after (policyMachine p) set h < 2 ^ valuations p

@@ -3,13 +3,13 @@ use mathlib.Core.Path.{_≡_, refl, sym, _∙_}
 use mathlib.Core.Bool.{Bool, true, false, true≢false, false≢true, not, _&&_}
 use mathlib.Core.Logic.{_↔_}
 use mathlib.Core.List.{List}
-use Prim.Native.Nat.{ℕ, zero, suc, _+_, _*_, _≤_}
+use Prim.Native.Nat.{ℕ, zero, suc, _+_, _≤_, _<_}
 use native.Mathlib.Omega.{arith}
 use lib.Dec.{leb, eqb, eqb·suc-zero}
 use borrow.Author.Tests.{leb-true, eqb-true, le-leb, eq-eqb, not-true, not-false}
 use Rattle.automaton.proofs.Below.{and-true}
 use Rattle.definitions.specs.Answer.{judge, thenJudge}
-use Rattle.definitions.specs.Bytes.{byte, hasMark, hasVersion1, within}
+use Rattle.definitions.specs.Bytes.{byte, hasMark, version, within}
 
 pub both-true : {a b : Bool} → a ≡ true → b ≡ true → (a && b) ≡ true
 both-true p q = rw p q
@@ -55,8 +55,9 @@ module _ (bytes : List ℕ) where
           let one = and-true (eqb (byte bytes 0) x) (eqb (byte bytes 1) y) (two .0) in
           (eqb-true (byte bytes 0) x (one .0), eqb-true (byte bytes 1) y (one .1), eqb-true (byte bytes 2) z (two .1))
 
-  pub version-true : (hasVersion1 bytes ≡ true) ↔ ((byte bytes 3 ≡ 0) × (byte bytes 4 ≡ 1))
-  version-true = (into, λ h. eq-eqb (byte bytes 3 * 256 + byte bytes 4) 1 (omega arith))
+  -- a version below 256
+  pub version-true : (n : ℕ) → n < 256 → (eqb (version bytes) n ≡ true) ↔ ((byte bytes 3 ≡ 0) × (byte bytes 4 ≡ n))
+  version-true n l = (into, λ h. eq-eqb (version bytes) n (omega arith))
     where
-      into : hasVersion1 bytes ≡ true → (byte bytes 3 ≡ 0) × (byte bytes 4 ≡ 1)
-      into e = let is = eqb-true (byte bytes 3 * 256 + byte bytes 4) 1 e in (omega arith, omega arith)
+      into : eqb (version bytes) n ≡ true → (byte bytes 3 ≡ 0) × (byte bytes 4 ≡ n)
+      into e = let is = eqb-true (version bytes) n e in (omega arith, omega arith)

@@ -1,17 +1,16 @@
--- Valuations: their numbers and the lists of their variables' values correspond one to one, and carrying out changes gives each variable its changed
--- value. A variable's bound is the greatest number that a rule tests it with.
+-- Valuations: their numbers and the lists of their variables' values correspond one to one. At the start each variable has its starting value, or its bound
+-- where that is less, and carrying out changes gives each variable its changed value. A variable's bound is the greatest number that a rule tests it with.
 use mathlib.Core.Path.{_≡_, refl}
 use mathlib.Core.Bool.{Bool, cond, true, false}
 use mathlib.Core.List.{List}
 use Prim.Native.Nat.{ℕ, zero, suc, _≤_, _<_}
-use native.Mathlib.Nat.{zero-div, zero-mod}
 use native.Mathlib.Omega.{arith}
 use lib.Dec.{ltb}
 use borrow.Author.Tests.{ltb-true}
 use Rattle.automaton.proofs.Below.{greatest-below, greatest-below-least}
 use Rattle.definitions.specs.Policy.{variables, rules, rule, ge, lt}
-use Rattle.definitions.specs.Valuation.{tested, bound, valuesOf, worth, valuations, startValuation, variableIn, changed, carriedOut}
-use Rattle.definitions.proofs.Radix.{product-some, lowNumber, low-below, low-digit, low-digit-below, low-unique}
+use Rattle.definitions.specs.Valuation.{tested, bound, valuesOf, worth, valuations, valuationOf, initialValue, startValuation, variableIn, changed, changedIn, carriedOut}
+use Rattle.definitions.proofs.Radix.{product-some, low-below, low-digit, low-digit-below, low-unique}
 
 -- a change keeps a variable at or below its bound
 pub changed-bound : (change most x : ℕ) → x ≤ most → changed change most x ≤ most
@@ -41,9 +40,6 @@ module _ (p : List ℕ) where
   pub variable-bound : (v j : ℕ) → variableIn p v j ≤ bound p j
   variable-bound v j = omega (arith, low-digit-below (valuesOf p) v j (omega arith))
 
-  pub variable-start : (j : ℕ) → variableIn p startValuation j ≡ 0
-  variable-start j = rw (zero-div (worth p j)) (zero-mod (valuesOf p j))
-
   pub some-valuation : 1 ≤ valuations p
   some-valuation = product-some (valuesOf p) (variables p) (λ j l. omega arith)
 
@@ -52,20 +48,34 @@ module _ (p : List ℕ) where
   valuations-same u v lu lv same = low-unique (valuesOf p) (variables p) (λ j l. omega arith) u v lu lv same
 
   -- any values up to the bounds are those of a valuation
-  pub valuation-with : (values : ℕ → ℕ) → ((j : ℕ) → j < variables p → values j ≤ bound p j)
-      → (v : ℕ) × (v < valuations p) × ((j : ℕ) → j < variables p → variableIn p v j ≡ values j)
-  valuation-with values within =
-      let below : (j : ℕ) → j < variables p → values j < valuesOf p j = λ j l. omega (arith, within j l) in
-      (lowNumber (valuesOf p) (variables p) values, low-below (valuesOf p) (variables p) values below, low-digit (valuesOf p) (variables p) values below)
+  module _ (values : ℕ → ℕ) (within : (j : ℕ) → j < variables p → values j ≤ bound p j) where
+    values-below : (j : ℕ) → j < variables p → values j < valuesOf p j
+    values-below j l = omega (arith, within j l)
+
+    pub valuation-below : valuationOf p values < valuations p
+    valuation-below = low-below (valuesOf p) (variables p) values values-below
+
+    pub variable-of : (j : ℕ) → j < variables p → variableIn p (valuationOf p values) j ≡ values j
+    variable-of = low-digit (valuesOf p) (variables p) values values-below
+
+  -- ---- the start
+  initial-bound : (j : ℕ) → j < variables p → initialValue p j ≤ bound p j
+  initial-bound j l = omega arith
+
+  pub start-valuation-below : startValuation p < valuations p
+  start-valuation-below = valuation-below (initialValue p) initial-bound
+
+  pub variable-start : (j : ℕ) → j < variables p → variableIn p (startValuation p) j ≡ initialValue p j
+  variable-start = variable-of (initialValue p) initial-bound
 
   -- ---- carrying out changes
   module _ (changes : ℕ → ℕ) (v : ℕ) where
-    changed-values : (j : ℕ) → j < variables p → changed (changes j) (bound p j) (variableIn p v j) < valuesOf p j
-    changed-values j l = omega (arith, changed-bound (changes j) (bound p j) (variableIn p v j) (variable-bound v j))
+    changed-within : (j : ℕ) → j < variables p → changedIn p changes v j ≤ bound p j
+    changed-within j l = changed-bound (changes j) (bound p j) (variableIn p v j) (variable-bound v j)
 
     pub carried-out-below : carriedOut p changes v < valuations p
-    carried-out-below = low-below (valuesOf p) (variables p) (λ j. changed (changes j) (bound p j) (variableIn p v j)) changed-values
+    carried-out-below = valuation-below (changedIn p changes v) changed-within
 
     -- each variable has its changed value
-    pub variable-carried-out : (j : ℕ) → j < variables p → variableIn p (carriedOut p changes v) j ≡ changed (changes j) (bound p j) (variableIn p v j)
-    variable-carried-out j l = low-digit (valuesOf p) (variables p) (λ j. changed (changes j) (bound p j) (variableIn p v j)) changed-values j l
+    pub variable-carried-out : (j : ℕ) → j < variables p → variableIn p (carriedOut p changes v) j ≡ changedIn p changes v j
+    variable-carried-out = variable-of (changedIn p changes v) changed-within

@@ -18,9 +18,9 @@ twoBytes bytes i = byte bytes i * 256 + byte bytes (i + 1)
 abbrev pub hasMark : ℕ → ℕ → ℕ → List ℕ → Bool
 hasMark x y z bytes = eqb (byte bytes 0) x && eqb (byte bytes 1) y && eqb (byte bytes 2) z
 
--- "version, 1", in the two bytes after the mark
-abbrev pub hasVersion1 : List ℕ → Bool
-hasVersion1 bytes = eqb (twoBytes bytes 3) 1
+-- "version", in the two bytes after the mark
+abbrev pub version : List ℕ → ℕ
+version bytes = twoBytes bytes 3
 
 abbrev pub within : ℕ → ℕ → ℕ → Bool
 within low x high = leb low x && leb x high

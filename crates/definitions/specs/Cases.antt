@@ -9,6 +9,7 @@ pub mod Refusals
 pub mod Limits
 pub mod Places
 pub mod Calls
+pub mod Starts
 pub mod Pages
 pub mod Large
 pub mod Table

@@ -1,4 +1,4 @@
--- The owner's demands 2 and 3, the states of the book of a policy, row 11 and the levels, and what verdict, compare and the page owe for any book, as
+-- The owner's demands 2 and 3, the states of the book of a policy, the start, row 11 and the levels, and what verdict, compare and the page owe for any book, as
 -- statements about histories. proofs/Demands.antt proves each, and proofs/Calls.antt those over the calls.
 -- A reader who believes the definitions and these statements needs to believe nothing else.
 use mathlib.Core.Path.{_≡_}
@@ -6,13 +6,15 @@ use mathlib.Core.Bool.{Bool, true, false}
 use mathlib.Core.Logic.{_↔_}
 use mathlib.Core.List.{List, [], _∷_, _++_}
 use mathlib.Core.Option.{Option, none, some}
-use Prim.Native.Nat.{ℕ, _+_, _-_, _*_, _≤_, _<_}
+use Prim.Native.Nat.{ℕ, _+_, _-_, _*_, _≤_, _<_, min}
 use lib.ListN.{length, getD, take, drop}
 use Rattle.automaton.specs.History.{History, Earlier, Earliest}
 use Rattle.automaton.specs.Machine.{Machine, after, possible, DistinctStates, SameHistories, inOne}
 use Rattle.definitions.specs.Policy as P
 use Rattle.definitions.specs.Codes.{acceptCode, rejectCode}
-use Rattle.definitions.specs.Situation.{fits, applies, policyMachine}
+use Rattle.definitions.specs.Bytes.{version, bit}
+use Rattle.definitions.specs.Valuation.{bound, valuations, initialValue, variableIn}
+use Rattle.definitions.specs.Situation.{fits, applies, startSituation, policyMachine}
 use Rattle.definitions.specs.Book as B
 use Rattle.definitions.specs.Refusal.{policyRefusal, bookRefusal}
 use Rattle.definitions.specs.Answer.{Answer, refused, given, written, historyBytes}
@@ -113,6 +115,27 @@ pub record StatesAreRight (m : Machine) (b : List ℕ) : Type 0 where
       → (s < t) ↔ Earlier g h
   -- two histories lead to one state exactly when the same histories are possible after each; those that are not possible lead to 0, which is no state
   pub joined : (g h : History) → (after (B.bookMachine b) 1 g ≡ after (B.bookMachine b) 1 h) ↔ SameAfter m g h
+
+-- ---- the start of a policy: request 2
+pub record StartIsRight (p : List ℕ) : Type 0 where
+  -- its one valuation is that in which each variable has its starting value; "A start above the variable's bound counts as the bound"
+  pub valuation : (v : ℕ) → v < valuations p
+      → (bit (startSituation p) v ≡ true) ↔ ((j : ℕ) → j < P.variables p → variableIn p v j ≡ min (P.startingValue p j) (bound p j))
+  -- "Version 1 files read as all zeros"
+  pub zeros : version p ≡ 1 → (j : ℕ) → P.startingValue p j ≡ 0
+
+-- two files of any versions with the same numbers, value counts, rules and changes of events: only versions and starting values may differ
+pub record SameRules (p q : List ℕ) : Type 0 where
+  pub events : P.events p ≡ P.events q
+  pub fields : P.fields p ≡ P.fields q
+  pub variables : P.variables p ≡ P.variables q
+  pub rules : P.rules p ≡ P.rules q
+  pub counts : (f : ℕ) → f < P.fields p → P.count p f ≡ P.count q f
+  pub table : P.ruleTable p ≡ P.ruleTable q
+
+-- "so equality of books holds between files of either version": where each variable begins alike, row 11 refuses both or neither, and there is one book
+abbrev pub StartsAreRight : List ℕ → List ℕ → Type 0
+StartsAreRight p q = ((j : ℕ) → j < P.variables p → initialValue p j ≡ initialValue q j) → (policyRefusal p ≡ policyRefusal q) × (bookOf p ≡ bookOf q)
 
 -- ---- row 11: "over 127 situations reached, before joining alike ones", for a file that rows 2 to 10 let pass: it is turned down exactly when 128 possible
 -- histories lead to situations no two of which are equal

@@ -1,11 +1,11 @@
--- The policy file p, field by field off its bytes, as document 01's section "Policy file" has it.
+-- The policy file p, field by field off its bytes, as document 01's section "Policy file" and request 2 of document 02 have it.
 use mathlib.Core.Bool.{cond}
 use mathlib.Core.List.{List, _∷_}
 use Prim.Native.Nat.{ℕ, suc, _+_, _-_, _*_, _/_, _%_}
-use lib.Dec.{ltb}
+use lib.Dec.{ltb, eqb}
 use lib.ListN.{drop}
 use Rattle.automaton.specs.Below.{foldBelow, listBelow}
-use Rattle.definitions.specs.Bytes.{byte, twoBytes, product}
+use Rattle.definitions.specs.Bytes.{byte, twoBytes, version, product}
 
 -- ---- "1 each: E events 0 to 8; F fields 1 to 4; P variables 0 to 4; R rules 1 to 32"
 abbrev pub events : List ℕ → ℕ
@@ -39,13 +39,23 @@ presentCount p f = cond (ltb f (fields p)) (count p f) 0
 abbrev pub frame : List ℕ → List ℕ
 frame p = events p ∷ fields p ∷ listBelow 4 (presentCount p)
 
+-- ---- "Version 2 of the policy file carries, after the value counts, one starting value for each variable"
+
+-- how many starting values the file carries: version 1 none
+abbrev pub starts : List ℕ → ℕ
+starts p = cond (eqb (version p) 2) (variables p) 0
+
+-- the starting value of variable j: "Version 1 files read as all zeros"
+abbrev pub startingValue : List ℕ → ℕ → ℕ
+startingValue p j = cond (eqb (version p) 2) (byte p (9 + fields p + j)) 0
+
 -- ---- the records: "F masks of 2 bytes, decision, level, then for each variable 3 bytes: ge, lt, change"
 abbrev pub ruleSize : List ℕ → ℕ
 ruleSize p = 2 * fields p + 2 + 3 * variables p
 
--- "The table of rules is handed on as the part that begins after the value counts"
+-- "The table of rules is handed on as the part that begins after the value counts", and in version 2 after the starting values
 abbrev pub ruleTable : List ℕ → List ℕ
-ruleTable p = drop (9 + fields p) p
+ruleTable p = drop (9 + fields p + starts p) p
 
 -- rule k: the part of the table that begins with its record
 abbrev pub rule : List ℕ → ℕ → List ℕ
@@ -55,9 +65,9 @@ rule p k = drop (k * ruleSize p) (ruleTable p)
 abbrev pub eventChange : List ℕ → ℕ → ℕ → ℕ
 eventChange p e j = byte (rule p (rules p)) (e * variables p + j)
 
--- "The length is exactly 9 + F + R × (2F + 2 + 3P) + E × P"
+-- "The length is exactly 9 + F + R × (2F + 2 + 3P) + E × P"; in version 2 "The length grows by P"
 abbrev pub exactLength : List ℕ → ℕ
-exactLength p = 9 + fields p + rules p * ruleSize p + events p * variables p
+exactLength p = 9 + fields p + starts p + rules p * ruleSize p + events p * variables p
 
 -- ---- a rule of p, given as the part q that begins with its record
 abbrev pub mask : List ℕ → ℕ → ℕ

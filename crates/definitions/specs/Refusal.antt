@@ -8,16 +8,20 @@ use lib.ListN.{length}
 use Rattle.automaton.specs.Below.{allBelow, sameList}
 use Rattle.automaton.specs.Explore.{Reached, reached}
 use Rattle.definitions.specs.Answer.{judge, thenJudge, Check, row, refusalBy}
-use Rattle.definitions.specs.Bytes.{hasMark, hasVersion1, within}
-use Rattle.definitions.specs.Policy.{events, fields, variables, rules, count, requests, exactLength, rule, mask, decision, ge, lt, change, eventChange}
+use Rattle.definitions.specs.Bytes.{hasMark, version, within}
+use Rattle.definitions.specs.Policy.{events, fields, variables, rules, count, requests, startingValue, exactLength, rule, mask, decision, ge, lt, change, eventChange}
 use Rattle.definitions.specs.Valuation.{valuations}
 use Rattle.definitions.specs.Situation.{policyMachine}
 use Rattle.definitions.specs.Book as B
 
--- ---- policies: rows 2 to 11
+-- ---- policies: rows 2 to 11 and 17
 
 abbrev pub hasHead : List ℕ → Bool
 hasHead p = leb 9 (length p)
+
+-- "4 now means neither 1 nor 2"
+abbrev pub versionHolds : List ℕ → Bool
+versionHolds p = eqb (version p) 1 || eqb (version p) 2
 
 abbrev pub rangesHold : List ℕ → Bool
 rangesHold p = leb (events p) 8 && within 1 (fields p) 4 && leb (variables p) 4 && within 1 (rules p) 32
@@ -30,6 +34,13 @@ countInRange p f = within 1 (count p f) 16
 
 abbrev pub countsHold : List ℕ → Bool
 countsHold p = allBelow (fields p) (countInRange p) && leb (requests p) 64
+
+-- "one starting value for each variable, 0 to 63"
+abbrev pub startHolds : List ℕ → ℕ → Bool
+startHolds p j = leb (startingValue p j) 63
+
+abbrev pub startsHold : List ℕ → Bool
+startsHold p = allBelow (variables p) (startHolds p)
 
 -- a test of rules, each given as the part that begins with its record: rule k passes, and every rule does
 abbrev pub rulePasses : List ℕ → (List ℕ → Bool) → ℕ → Bool
@@ -72,6 +83,8 @@ abbrev pub contentChecks : List Check
 contentChecks =
     -- "a value count outside 1 to 16, or Q over 64"
     row 7 countsHold
+    -- "a start above 63, judged after 7 and before 8"
+    ∷ row 17 startsHold
     -- "a mask"
     ∷ row 8 masksHold
     -- "a decision, test or change outside its values"
@@ -88,7 +101,7 @@ fileChecks =
     -- "mark" POL
     ∷ row 3 (hasMark 0x50 0x4F 0x4C)
     -- "version"
-    ∷ row 4 hasVersion1
+    ∷ row 4 versionHolds
     -- "E, F, P or R outside its range"
     ∷ row 5 rangesHold
     -- "length"
@@ -107,7 +120,7 @@ unfoldable pub row11 : List ℕ → ℕ
 unfolding situations
 row11 p = judge 11 (leb (length (situations p)) 127) 0
 
--- rows 2 to 11. "A policy is accepted if no number but 1 turns it down"
+-- rows 2 to 11 and 17. "A policy is accepted if no number but 1 turns it down"
 unfoldable pub policyRefusal : List ℕ → ℕ
 unfolding fileRefusal row11
 policyRefusal p = thenJudge (fileRefusal p) (row11 p)
@@ -119,7 +132,7 @@ Accepted p = policyRefusal p ≡ 0
 
 -- the length of the header, the mark BOK and the version
 abbrev pub isMarked : List ℕ → Bool
-isMarked b = leb 12 (length b) && hasMark 0x42 0x4F 0x4B b && hasVersion1 b
+isMarked b = leb 12 (length b) && hasMark 0x42 0x4F 0x4B b && eqb (version b) 1
 
 -- "a present count outside its range; an absent count not 0"
 abbrev pub countHolds : List ℕ → ℕ → Bool

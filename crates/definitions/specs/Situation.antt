@@ -57,8 +57,8 @@ abbrev pub union : ℕ → ℕ → ℕ
 union a b = bitOr a b
 
 -- "The situation type has its own start and its own empty test"
-abbrev pub startSituation : ℕ
-startSituation = insert startValuation emptySet
+abbrev pub startSituation : List ℕ → ℕ
+startSituation p = insert (startValuation p) emptySet
 
 abbrev pub isEmpty : ℕ → Bool
 isEmpty set = eqb set emptySet
@@ -96,4 +96,4 @@ imageOfSet p set c = foldBelow (valuations p) emptySet (withImage p set c)
 
 -- "if that set is empty, the step is not possible": the policy as a machine
 abbrev pub policyMachine : List ℕ → Machine
-policyMachine p = record { width = width p; start = startSituation; next = imageOfSet p }
+policyMachine p = record { width = width p; start = startSituation p; next = imageOfSet p }

@@ -1,11 +1,11 @@
 -- Valuations: "A valuation gives each variable a value from 0 to its bound." A valuation is a number in mixed radix, the first variable lowest.
 use mathlib.Core.Bool.{cond}
 use mathlib.Core.List.{List}
-use Prim.Native.Nat.{ℕ, zero, suc, _+_, _*_, _/_, _%_, max}
+use Prim.Native.Nat.{ℕ, zero, suc, _+_, _*_, _/_, _%_, max, min}
 use lib.Dec.{ltb}
 use Rattle.automaton.specs.Below.{foldBelow}
 use Rattle.definitions.specs.Bytes.{product}
-use Rattle.definitions.specs.Policy.{variables, rules, rule, ge, lt, change, eventChange}
+use Rattle.definitions.specs.Policy.{variables, rules, startingValue, rule, ge, lt, change, eventChange}
 
 -- the greater number of a rule's tests of variable j, 0 if there is none
 abbrev pub tested : List ℕ → List ℕ → ℕ → ℕ
@@ -29,9 +29,20 @@ worth p j = product j (valuesOf p)
 abbrev pub valuations : List ℕ → ℕ
 valuations p = worth p (variables p)
 
--- "the start has all zeros"
-abbrev pub startValuation : ℕ
-startValuation = 0
+-- the valuation in which each variable j has the value values j
+abbrev pub withVariable : List ℕ → (ℕ → ℕ) → ℕ → ℕ → ℕ
+withVariable p values j v = v + values j * worth p j
+
+abbrev pub valuationOf : List ℕ → (ℕ → ℕ) → ℕ
+valuationOf p values = foldBelow (variables p) 0 (withVariable p values)
+
+-- the value of variable j at the start: "A start above the variable's bound counts as the bound"
+abbrev pub initialValue : List ℕ → ℕ → ℕ
+initialValue p j = min (startingValue p j) (bound p j)
+
+-- the start: in version 1 it "has all zeros"
+abbrev pub startValuation : List ℕ → ℕ
+startValuation p = valuationOf p (initialValue p)
 
 -- the value of variable j in valuation v
 abbrev pub variableIn : List ℕ → ℕ → ℕ → ℕ
@@ -44,11 +55,11 @@ changed (suc zero) most x = cond (ltb x most) (suc x) x
 changed (suc (suc n)) most x = 0
 
 -- the valuation in which each variable of v has been changed
-abbrev pub withChanged : List ℕ → (ℕ → ℕ) → ℕ → ℕ → ℕ → ℕ
-withChanged p changes v j u = u + changed (changes j) (bound p j) (variableIn p v j) * worth p j
+abbrev pub changedIn : List ℕ → (ℕ → ℕ) → ℕ → ℕ → ℕ
+changedIn p changes v j = changed (changes j) (bound p j) (variableIn p v j)
 
 abbrev pub carriedOut : List ℕ → (ℕ → ℕ) → ℕ → ℕ
-carriedOut p changes v = foldBelow (variables p) 0 (withChanged p changes v)
+carriedOut p changes v = valuationOf p (changedIn p changes v)
 
 -- the valuation that carrying out rule k leads to from v
 abbrev pub byRule : List ℕ → ℕ → ℕ → ℕ

@@ -24,7 +24,7 @@ pub record Tells (refusal value told : ℕ) : Type 0 where
   pub given : refusal ≡ 0 → told / 256 ≡ value
   pub nothing : (refusal ≡ 0 → ⊥) → told / 256 ≡ 0
 
-tells : {A : Type 0} (refusal : ℕ) (value : A → ℕ) (a : A) → refusal ≤ 15 → Tells refusal (value a) (packed value (answer refusal a))
+tells : {A : Type 0} (refusal : ℕ) (value : A → ℕ) (a : A) → refusal ≤ 255 → Tells refusal (value a) (packed value (answer refusal a))
 tells zero value a small = record { number = omega arith; given = λ _. omega arith; nothing = λ n. omega arith }
 tells (suc k) value a small = record { number = omega arith; given = λ e. absurd (omega arith); nothing = λ _. omega arith }
 

@@ -26,41 +26,41 @@ book-small p accepted =
     let layout = book-passed (bookOf p) .0 (right .passes) .layout in
     omega (arith, right .size, mul-le-mul (layout .header .statesMost) (layout .header .widthMost))
 
--- ---- a refusal's number is at most 15
-judge-small : (number : ℕ) (passes : Bool) (later : ℕ) → number ≤ 15 → later ≤ 15 → judge number passes later ≤ 15
+-- ---- a refusal's number is at most 255
+judge-small : (number : ℕ) (passes : Bool) (later : ℕ) → number ≤ 255 → later ≤ 255 → judge number passes later ≤ 255
 judge-small number true later l m = m
 judge-small number false later l m = l
 
-then-small : (first later : ℕ) → first ≤ 15 → later ≤ 15 → thenJudge first later ≤ 15
+then-small : (first later : ℕ) → first ≤ 255 → later ≤ 255 → thenJudge first later ≤ 255
 then-small first later l m = judge-small first (eqb first 0) later l m
 
-file-refusal-small : (p : List ℕ) → fileRefusal p ≤ 15
+file-refusal-small : (p : List ℕ) → fileRefusal p ≤ 255
 unfolding fileRefusal
-file-refusal-small p = refusal-most p 15 fileChecks refl
+file-refusal-small p = refusal-most p 255 fileChecks refl
 
-policy-refusal-small : (p : List ℕ) → policyRefusal p ≤ 15
+policy-refusal-small : (p : List ℕ) → policyRefusal p ≤ 255
 unfolding policyRefusal row11
 policy-refusal-small p =
     then-small (fileRefusal p) (row11 p) (file-refusal-small p) (judge-small 11 (leb (length (situations p)) 127) 0 (omega arith) (omega arith))
 
-book-refusal-small : (b : List ℕ) → bookRefusal b ≤ 15
+book-refusal-small : (b : List ℕ) → bookRefusal b ≤ 255
 unfolding bookRefusal
-book-refusal-small b = refusal-most b 15 bookChecks refl
+book-refusal-small b = refusal-most b 255 bookChecks refl
 
-pub build-refusal-small : (p buffer : List ℕ) → buildRefusal p buffer ≤ 15
+pub build-refusal-small : (p buffer : List ℕ) → buildRefusal p buffer ≤ 255
 unfolding buildRefusal
 build-refusal-small p buffer = judge-small 1 (leb 17284 (length buffer)) (policyRefusal p) (omega arith) (policy-refusal-small p)
 
-pub verdict-refusal-small : (b x y z : List ℕ) → verdictRefusal b x y z ≤ 15
+pub verdict-refusal-small : (b x y z : List ℕ) → verdictRefusal b x y z ≤ 255
 unfolding verdictRefusal
 verdict-refusal-small b x y z =
     judge-small 1 (leb 128 (length x) && leb 128 (length y) && leb 128 (length z)) (bookRefusal b) (omega arith) (book-refusal-small b)
 
-pub page-refusal-small : (b buffer : List ℕ) → pageRefusal b buffer ≤ 15
+pub page-refusal-small : (b buffer : List ℕ) → pageRefusal b buffer ≤ 255
 unfolding pageRefusal
 page-refusal-small b buffer = judge-small 1 (leb 9271 (length buffer)) (bookRefusal b) (omega arith) (book-refusal-small b)
 
-pub compare-refusal-small : (b d buffer : List ℕ) → compareRefusal b d buffer ≤ 15
+pub compare-refusal-small : (b d buffer : List ℕ) → compareRefusal b d buffer ≤ 255
 unfolding compareRefusal row15
 compare-refusal-small b d buffer =
     judge-small 1 (leb 256 (length buffer)) (thenJudge (bookRefusal b) (thenJudge (bookRefusal d) (row15 b d))) (omega arith)

@@ -5,12 +5,12 @@ ghost use Rattle.definitions.specs.Policy.{rules, rule};
 ghost use Rattle.policy.specs.Sized.{Sized, TableOf, RuleOf, ChangesOf};
 use super::header;
 
-// The table of rules, which begins after the value counts, and what follows it.
+// The table of rules, which begins after the value counts or, in version 2, after the starting values, and what follows it.
 pub fn rule_table(policy: &[u8]) -> &[u8]
     requires { ⌜ Sized (now policy) ⌝ }
     ensures { λ r. ⌜ TableOf (now (policy .entry)) (now r) ⌝ }
 {
-    &policy[9 + header::fields(policy)..]
+    &policy[9 + header::fields(policy) + header::starts(policy)..]
 }
 
 // Rule k: the part of the table that begins with its record. After the last rule come the records of the events.

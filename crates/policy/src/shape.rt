@@ -12,6 +12,8 @@ pub struct Shape {
     pub requests: usize,
     pub width: usize,
     pub valuations: usize,
+    // the valuation before any step
+    pub start: usize,
 }
 
 impl Shape {
@@ -21,11 +23,13 @@ impl Shape {
     {
         let events = header::events(policy);
         let requests = counts::requests(policy);
+        let table = part::rule_table(policy);
         Shape {
             events,
             requests,
             width: events + 2 * requests,
-            valuations: valuation::valuations(policy, part::rule_table(policy)),
+            valuations: valuation::valuations(policy, table),
+            start: valuation::start(policy, table),
         }
     }
 }

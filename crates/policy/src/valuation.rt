@@ -1,8 +1,8 @@
-// The variables' bounds, and the number of valuations.
+// The variables' bounds, the number of valuations, and the valuation before any step.
 ghost use mathlib.Core.Path.{_≡_};
-ghost use Prim.Native.Nat.{_<_, max};
+ghost use Prim.Native.Nat.{_<_, max, min};
 ghost use Rattle.definitions.specs.Policy.{variables};
-ghost use Rattle.definitions.specs.Valuation.{tested, bound, valuations};
+ghost use Rattle.definitions.specs.Valuation.{tested, bound, valuations, startValuation};
 ghost use Rattle.policy.specs.Sized.{TableOf, RuleOf};
 use super::header;
 use super::part;
@@ -12,6 +12,12 @@ fn greater(a: usize, b: usize) -> usize
     ensures { λ r. ⌜ r ≡ max a b ⌝ }
 {
     if a < b { b } else { a }
+}
+
+fn lesser(a: usize, b: usize) -> usize
+    ensures { λ r. ⌜ r ≡ min a b ⌝ }
+{
+    if a < b { a } else { b }
 }
 
 // The greater number that a rule tests variable j with.
@@ -50,4 +56,22 @@ pub fn valuations(policy: &[u8], table: &[u8]) -> usize
         j += 1;
     }
     product
+}
+
+// The valuation before any step: each variable has its starting value, or its bound where that is less. A file of version 1 carries none, and all are 0.
+pub fn start(policy: &[u8], table: &[u8]) -> usize
+    requires { ⌜ TableOf (now policy) (now table) ⌝ }
+    ensures { λ r. ⌜ r ≡ startValuation (now (policy .entry)) ⌝ }
+{
+    let n = header::starts(policy);
+    let mut sum = 0;
+    let mut worth = 1;
+    let mut j = 0;
+    while j < n {
+        let most = bound(policy, table, j);
+        sum = sum + lesser(header::start(policy, j), most) * worth;
+        worth = worth * (most + 1);
+        j += 1;
+    }
+    sum
 }

@@ -3,9 +3,9 @@ ghost use mathlib.Core.Path.{_≡_};
 ghost use Prim.Native.Nat.{_≤_};
 ghost use lib.Dec.{eqb};
 ghost use lib.ListN.{length};
-ghost use Rattle.definitions.specs.Bytes.{hasMark, hasVersion1, within};
+ghost use Rattle.definitions.specs.Bytes.{hasMark, within};
 ghost use Rattle.definitions.specs.Policy.{exactLength};
-ghost use Rattle.definitions.specs.Refusal.{rangesHold};
+ghost use Rattle.definitions.specs.Refusal.{versionHolds, rangesHold};
 use policy::header;
 
 pub fn mark_holds(policy: &[u8]) -> bool
@@ -17,9 +17,10 @@ pub fn mark_holds(policy: &[u8]) -> bool
 
 pub fn version_holds(policy: &[u8]) -> bool
     requires { ⌜ 9 ≤ length (now policy) ⌝ }
-    ensures { λ r. ⌜ r ≡ hasVersion1 (now (policy .entry)) ⌝ }
+    ensures { λ r. ⌜ r ≡ versionHolds (now (policy .entry)) ⌝ }
 {
-    header::two_bytes(policy, 3) == 1
+    let version = header::two_bytes(policy, 3);
+    (version == 1) | (version == 2)
 }
 
 pub fn in_range(low: usize, x: usize, high: usize) -> bool
@@ -44,5 +45,5 @@ pub fn length_holds(policy: &[u8]) -> bool
 {
     let rules = header::rules(policy) * header::rule_size(policy);
     let changes = header::events(policy) * header::variables(policy);
-    policy.len() == 9 + header::fields(policy) + rules + changes
+    policy.len() == 9 + header::fields(policy) + header::starts(policy) + rules + changes
 }

@@ -1,7 +1,8 @@
-// Rows 2 to 10: what a policy file is refused for, stated in definitions/specs/Refusal.antt (`fileChecks`).
+// Rows 2 to 10 and 17: what a policy file is refused for, stated in definitions/specs/Refusal.antt (`fileChecks`).
 mod counts;
 mod layout;
 mod masks;
+mod starts;
 mod values;
 
 ghost use mathlib.Core.Path.{_≡_};
@@ -11,7 +12,7 @@ ghost use Rattle.policy.specs.Sized.{Sized, TableOf};
 use policy::part;
 use policy::valuation;
 
-// The number of the lowest row from 2 to 10 that refuses the file; 0 if none does.
+// The number of the first row of 2 to 7, 17 and 8 to 10 that refuses the file; 0 if none does.
 pub fn file_refusal(policy: &[u8]) -> usize
     ensures { λ r. ⌜ r ≡ fileRefusal (now (policy .entry)) ⌝ }
 {
@@ -33,13 +34,16 @@ pub fn file_refusal(policy: &[u8]) -> usize
     contents_refusal(policy)
 }
 
-// Rows 7 to 10, of a file whose length is right.
+// Rows 7, 17 and 8 to 10, of a file whose length is right.
 fn contents_refusal(policy: &[u8]) -> usize
     requires { ⌜ Sized (now policy) ⌝ }
     ensures { λ r. ⌜ r ≡ refusalBy contentChecks (now (policy .entry)) ⌝ }
 {
     if !counts::counts_hold(policy) {
         return 7;
+    }
+    if !starts::starts_hold(policy) {
+        return 17;
     }
     let table = part::rule_table(policy);
     if !masks::masks_hold(policy, table) {

@@ -11,14 +11,13 @@ use borrow.Author.Tests.{ne-eqb}
 use Rattle.automaton.specs.Below.{foldBelow}
 use Rattle.automaton.proofs.Congruence.{fold-below-same}
 use Rattle.definitions.specs.Policy.{variables}
-use Rattle.definitions.specs.Valuation.{bound, valuesOf, worth, variableIn, changed}
+use Rattle.definitions.specs.Valuation.{bound, valuesOf, worth, withVariable, variableIn, changed}
 use Rattle.definitions.specs.Situation.{isBelow}
 use Rattle.policy.specs.Sized.{Passed}
 use Rattle.definitions.proofs.Products.{product-grows}
-use Rattle.definitions.proofs.Radix.{low-below}
-use Rattle.definitions.proofs.Valuations.{changed-bound, variable-bound}
+use Rattle.definitions.proofs.Valuations.{changed-bound, variable-bound, valuation-below}
 use Rattle.rules.specs.Arrays.{Tabled}
-use Rattle.rules.specs.Changes.{Valued, withChangedBy, carriedBy}
+use Rattle.rules.specs.Changes.{Valued, changedBy, carriedBy}
 
 -- ---- a test and a change of one variable
 pub limited : (x most : ℕ) → (eqb most 0 || ltb x most) ≡ isBelow x most
@@ -57,7 +56,7 @@ module _ (p : List ℕ) where
   -- ---- the changed variables from j on have been put together
   module _ (changes x : ℕ → ℕ) where
     abbrev pub Carrying : ℕ → ℕ → Type 0
-    Carrying j sum = foldBelow j 0 (withChangedBy p changes x) + sum * worth p j ≡ carriedBy p changes x
+    Carrying j sum = foldBelow j 0 (withVariable p (changedBy p changes x)) + sum * worth p j ≡ carriedBy p changes x
 
     pub carrying-begun : (j : ℕ) → j ≡ variables p → Carrying j 0
     carrying-begun j e = rw (e, zero-mul, add-zero)
@@ -80,8 +79,7 @@ module _ (p : List ℕ) where
     module _ (passed : Passed p) (fits : (j : ℕ) → j < variables p → x j ≤ bound p j) where
       pub carried-low : carriedBy p changes x < 64
       carried-low =
-          let low = low-below (valuesOf p) (variables p) (λ i. changed (changes i) (bound p i) (x i))
-          (λ i l. omega (arith, changed-bound (changes i) (bound p i) (x i) (fits i l))) in
+          let low = valuation-below p (changedBy p changes x) (λ j l. changed-bound (changes j) (bound p j) (x j) (fits j l)) in
           omega (arith, low, passed .fewValuations)
 
       pub carrying-fits : (j sum : ℕ) → Carrying j sum → sum < 64
@@ -91,4 +89,4 @@ module _ (p : List ℕ) where
 
   pub carried-same : (f g x y : ℕ → ℕ) → ((j : ℕ) → j < variables p → f j ≡ g j) → ((j : ℕ) → j < variables p → x j ≡ y j) → carriedBy p f x ≡ carriedBy p g y
   carried-same f g x y fs xs =
-      fold-below-same (withChangedBy p f x) (withChangedBy p g y) 0 (variables p) (λ j u l. rw (fs j l, xs j l))
+      fold-below-same (withVariable p (changedBy p f x)) (withVariable p (changedBy p g y)) 0 (variables p) (λ j u l. rw (fs j l, xs j l))

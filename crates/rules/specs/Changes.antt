@@ -2,10 +2,9 @@
 use mathlib.Core.List.{List}
 use Prim.Native.Nat.{ℕ, _+_, _*_, _<_, _≤_}
 use lib.ListN.{length, getD}
-use Rattle.automaton.specs.Below.{foldBelow}
 use Rattle.definitions.specs.Bytes.{byte}
 use Rattle.definitions.specs.Policy.{variables}
-use Rattle.definitions.specs.Valuation.{bound, worth, changed}
+use Rattle.definitions.specs.Valuation.{bound, valuationOf, changed}
 
 -- ---- changes in a part of the file, each `step` bytes after the one before it
 abbrev pub changeAt : List ℕ → ℕ → ℕ → ℕ → ℕ
@@ -22,8 +21,8 @@ pub record Valued (p values : List ℕ) : Type 0 where
   pub room : variables p ≤ length values
   pub most : (j : ℕ) → j < variables p → getD values j 0 ≤ bound p j
 
-abbrev pub withChangedBy : List ℕ → (ℕ → ℕ) → (ℕ → ℕ) → ℕ → ℕ → ℕ
-withChangedBy p changes x j u = u + changed (changes j) (bound p j) (x j) * worth p j
+abbrev pub changedBy : List ℕ → (ℕ → ℕ) → (ℕ → ℕ) → ℕ → ℕ
+changedBy p changes x j = changed (changes j) (bound p j) (x j)
 
 abbrev pub carriedBy : List ℕ → (ℕ → ℕ) → (ℕ → ℕ) → ℕ
-carriedBy p changes x = foldBelow (variables p) 0 (withChangedBy p changes x)
+carriedBy p changes x = valuationOf p (changedBy p changes x)

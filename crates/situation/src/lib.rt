@@ -3,7 +3,7 @@ ghost use mathlib.Core.Path.{_≡_};
 ghost use Prim.Native.Nat.{_<_};
 ghost use lib.Dec.{eqb};
 ghost use Rattle.definitions.specs.Bytes.{bit};
-ghost use Rattle.definitions.specs.Situation.{emptySet, startSituation, insert, union, isEmpty};
+ghost use Rattle.definitions.specs.Situation.{emptySet, insert, union, isEmpty};
 
 // Bit v of the set says that valuation v is in it. The empty set is no situation: it stands for a step that is not possible.
 pub struct Situation {
@@ -11,15 +11,14 @@ pub struct Situation {
 }
 
 impl Situation {
-    pub const START: Situation = Situation { set: 1 };
-
     pub const EMPTY: Situation = Situation { set: 0 };
 
-    // The situation before any step: all variables are zero.
-    pub fn start() -> Situation
-        ensures { λ r. ⌜ r .set ≡ startSituation ⌝ }
+    // The situation before any step: its one valuation is the policy's start.
+    pub fn start(valuation: usize) -> Situation
+        requires { ⌜ valuation < 64 ⌝ }
+        ensures { λ r. ⌜ r .set ≡ insert valuation emptySet ⌝ }
     {
-        Situation::START
+        Situation::EMPTY.with(valuation)
     }
 
     pub fn empty() -> Situation

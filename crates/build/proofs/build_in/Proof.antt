@@ -1,10 +1,10 @@
 -- `build_in` meets its contract: what exploring leaves is the table of the policy's situations, and its book is written.
 use Rattle.images.specs.Images.{ImagesOf}
-use Rattle.build.proofs.PolicySizes.{has-passed, width-low, valuations-low, images-fit, book-fits, header-read}
+use Rattle.build.proofs.PolicySizes.{has-passed, width-low, start-low, start-some, valuations-low, images-fit, book-fits, header-read}
 use Rattle.build.proofs.RawTable.{SituationRows, situations-over, situation-rows}
 use Rattle.build.proofs.BuildAnswers.{refused-by-11, refused-by-none, build-refused, build-given}
 use Rattle.explore.specs.SetImages.{imagesMachine}
-use Rattle.definitions.specs.Situation.{startSituation}
+use Rattle.definitions.specs.Situation.{emptySet, insert, startSituation}
 use Rattle.explore.specs.Reaches.{Reaches}
 use Rattle.definitions.specs.Policy.{width}
 use Rattle.policy.specs.declared.shape.Shape.{Shape}
@@ -14,7 +14,7 @@ use lib.ListN.{length, replicate}
 use mathlib.Core.List.{List}
 use Prim.Native.Nat.{ℕ, _<_}
 use native.Mathlib.Omega.{arith}
-use mathlib.Core.Path.{_≡_, ap}
+use mathlib.Core.Path.{_≡_, sym, ap, subst, _∙_}
 use borrow.Author.Needs.{needs}
 use Rattle.build.proofs.build_in.Statement.{statement}
 use Rattle.build.proofs.build_in.Tie as tie
@@ -32,10 +32,17 @@ images c = c .before .before .before .before .before .before .before .fill-image
 images-of : (c : tie.After-explore) → ImagesOf (policy c) (images c)
 images-of c = c .before .before .before .before .before .before .before .fill-images .ensures
 
+start-is : (c : tie.After-explore) → c .before .before .before .before .start .result .set ≡ startSituation (policy c)
+start-is c =
+    let of = c .before .before .before .before .before .before .before .before .before .of .ensures in
+    c .before .before .before .before .start .ensures ∙ ap (λ (s : Shape). insert (s .start) emptySet) of
+
 reaches : (c : tie.After-explore)
-    → Reaches (imagesMachine (images c) (valuations (policy c)) (width (policy c)) startSituation) (replicate 128 0) (start c .args .raw .now) (c .explore .result)
+    → Reaches (imagesMachine (images c) (valuations (policy c)) (width (policy c)) (startSituation (policy c))) (replicate 128 0) (start c .args .raw .now) (c .explore .result)
     (c .explore .last .1 .1 .1 .1 .0) (c .explore .last .1 .1 .1 .1 .1 .0)
-reaches c = rw (c .before .before .before .before .before .before .before .before .before .of .ensures, c .before .before .before .before .start .ensures) at (c .explore .ensures)
+reaches c =
+    let of = c .before .before .before .before .before .before .before .before .before .of .ensures in
+    rw (of, start-is c) at (c .explore .ensures)
 
 wide : (c : tie.After-explore) → c .before .before .before .before .before .before .before .before .before .of .result .width ≡ width (policy c)
 wide c = ap (λ (s : Shape). s .width) (c .before .before .before .before .before .before .before .before .before .of .ensures)
@@ -56,7 +63,9 @@ fill-images-requires c κs =
     (has-passed (p .args .policy .now) (p .pre .0 .0), c .before .of .ensures, omega (arith, p .pre .1 .0))
 
 start-requires : tie.Need-start-requires
-start-requires c κs = search needs
+start-requires c κs =
+    let p = c .before .before .before .before .before .before .before .before .before in
+    omega (arith, start-low (p .args .policy .now) (p .pre .0 .0), ap (λ (s : Shape). s .start) (c .before .before .before .before .of .ensures))
 
 slice-aggregate-explore : tie.Need-slice-aggregate-explore
 slice-aggregate-explore c = search needs
@@ -65,8 +74,11 @@ explore-requires : tie.Need-explore-requires
 explore-requires c κs =
     let p = c .before .before .before .before .before .before .before .before .before .before .before .before .before in
     let fits = images-fit (p .args .policy .now) (p .pre .0 .0) in
-    rw (c .before .before .before .before .before .before .before .before .of .ensures) (
-      (valuations-low (p .args .policy .now) (p .pre .0 .0), width-low (p .args .policy .now) (p .pre .0 .0), omega (arith, c .before .before .before .before .before .before .fill-images .kept .1 .1 .0, p .pre .1 .0), omega (arith, c .before .before .before .start .ensures)),
+    let of = c .before .before .before .before .before .before .before .before .of .ensures in
+    let begins = c .before .before .before .start .ensures ∙ ap (λ (s : Shape). insert (s .start) emptySet) of in
+    let some = subst (λ (set : ℕ). 0 < set) (sym begins) (start-some (p .args .policy .now) (p .pre .0 .0)) in
+    rw of (
+      (valuations-low (p .args .policy .now) (p .pre .0 .0), width-low (p .args .policy .now) (p .pre .0 .0), omega (arith, c .before .before .before .before .before .before .fill-images .kept .1 .1 .0, p .pre .1 .0), some),
       (omega arith, p .pre .1 .1),
     )
 

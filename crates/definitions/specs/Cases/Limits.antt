@@ -25,7 +25,7 @@ limitCases =
     ∷ number (policyRefusal (set policyA 0 0x51)) 3
     ∷ number (policyRefusal (set policyA 1 0x50)) 3
     ∷ number (policyRefusal (set policyA 3 1)) 4
-    ∷ number (policyRefusal (set policyA 4 2)) 4
+    ∷ number (policyRefusal (set policyA 4 3)) 4
     -- 5: E 0 to 8, F 1 to 4, P 0 to 4, R 1 to 32; what passes is refused for its length
     ∷ number (policyRefusal (set policyA 5 8)) 6
     ∷ number (policyRefusal (set policyA 5 9)) 5

@@ -11,7 +11,7 @@ use Rattle.definitions.specs.Shelf.{shelfText}
 use Rattle.definitions.specs.Cases.Claim.{Claim, bytes}
 
 -- 3 events, fields of 2 values and of 1, 4 variables, 5 rules
-abbrev mixed : List ℕ
+abbrev pub mixed : List ℕ
 mixed =
     80 ∷ 79 ∷ 76 ∷ 0 ∷ 1 ∷ 3 ∷ 2 ∷ 4 ∷ 5
     ∷ 2 ∷ 1
@@ -50,7 +50,7 @@ textOfMixed =
 abbrev numberWith : (List ℕ → ℕ) → List ℕ → ℕ → ℕ → ℕ
 numberWith refusal file x i = refusal (set file i x)
 
-abbrev numbersWith : (List ℕ → ℕ) → List ℕ → ℕ → List ℕ
+abbrev pub numbersWith : (List ℕ → ℕ) → List ℕ → ℕ → List ℕ
 numbersWith refusal file x = listBelow (length file) (numberWith refusal file x)
 
 -- the head and the counts; each rule's two masks, decision, level and four variables; the events' changes

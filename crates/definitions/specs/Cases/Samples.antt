@@ -1,14 +1,18 @@
 -- The policies and books of document 01's cases.
 use mathlib.Core.List.{List, [], _∷_, _++_}
 use mathlib.Core.Option.{none, some}
-use Prim.Native.Nat.{ℕ}
-use lib.ListN.{replicate}
+use Prim.Native.Nat.{ℕ, _+_}
+use lib.ListN.{set, take, drop, replicate}
 use Rattle.automaton.specs.History.{History}
 use Rattle.definitions.specs.Verdict.{Found, Findings}
 
 -- a policy of E events, one field, P variables and R rules, from the value count on
 abbrev pub policy : ℕ → ℕ → ℕ → List ℕ → List ℕ
 policy E P R rest = 0x50 ∷ 0x4F ∷ 0x4C ∷ 0 ∷ 1 ∷ E ∷ 1 ∷ P ∷ R ∷ rest
+
+-- the file of version 2 with the rules of a file of version 1 of F fields, and with these starting values
+abbrev pub withStarts : ℕ → List ℕ → List ℕ → List ℕ
+withStarts F starts p = set (take (9 + F) p ++ starts ++ drop (9 + F) p) 4 2
 
 -- a rule with one mask below 256 and one variable: mask, decision, level, ge, lt, change
 abbrev pub ruleOf : ℕ → ℕ → ℕ → ℕ → ℕ → ℕ → List ℕ

@@ -9,8 +9,9 @@ use Rattle.definitions.specs.Cases.Refusals.{refusalCases}
 use Rattle.definitions.specs.Cases.Limits.{limitCases}
 use Rattle.definitions.specs.Cases.Places.{placeCases}
 use Rattle.definitions.specs.Cases.Calls.{callCases}
+use Rattle.definitions.specs.Cases.Starts.{startCases}
 use Rattle.definitions.specs.Cases.Pages.{pageCases}
 use Rattle.definitions.specs.Cases.Large.{largeCases}
 
 abbrev pub cases : List Claim
-cases = partCases ++ callCases ++ refusalCases ++ khoumsiCases ++ placeCases ++ documentCases ++ limitCases ++ severalCases ++ pageCases ++ largeCases
+cases = partCases ++ callCases ++ refusalCases ++ khoumsiCases ++ placeCases ++ documentCases ++ limitCases ++ severalCases ++ startCases ++ pageCases ++ largeCases

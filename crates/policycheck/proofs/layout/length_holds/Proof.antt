@@ -36,17 +36,25 @@ fields-requires c κs = search needs
 add-result : tie.Need-add-result
 add-result c = search needs
 
+starts-requires : tie.Need-starts-requires
+starts-requires c κs = search needs
+
 add-result-2 : tie.Need-add-result-2
-add-result-2 c = omega (arith, rules-fit (c .before .before .before))
+add-result-2 c = search needs
 
 add-result-3 : tie.Need-add-result-3
-add-result-3 c = omega (arith, rules-fit (c .before .before .before), changes-fit (c .before))
+add-result-3 c = omega (arith, rules-fit (c .before .before .before .before))
+
+add-result-4 : tie.Need-add-result-4
+add-result-4 c = omega (arith, rules-fit (c .before .before .before .before), changes-fit (c .before .before))
 
 returns : tie.Need-returns
 returns c =
-    let rules = c .before .before .before .before .rules in
-    let rule-size = c .before .before .before .rule-size in
-    rw (c .fields .ensures .0, rules .ensures .0, rule-size .ensures .0, c .before .before .events .ensures .0, c .before .variables .ensures .0)
+    let rules = c .before .before .before .before .before .rules in
+    let rule-size = c .before .before .before .before .rule-size in
+    let events = c .before .before .before .events in
+    let variables = c .before .before .variables in
+    rw (c .before .fields .ensures .0, c .starts .ensures .0, rules .ensures .0, rule-size .ensures .0, events .ensures .0, variables .ensures .0)
 
 pub length-holds-spec : {M : Type 1} → statement M
 length-holds-spec =
@@ -60,6 +68,8 @@ length-holds-spec =
     mul-changes
     fields-requires
     add-result
+    starts-requires
     add-result-2
     add-result-3
+    add-result-4
     returns)
