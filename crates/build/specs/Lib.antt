@@ -1,1 +1,2 @@
 pub mod BuiltAnswer
+pub mod Buildable

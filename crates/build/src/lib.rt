@@ -1,5 +1,5 @@
 // From a policy to its book: the situations that histories reach, alike ones joined, numbered by their earliest history, and written as bytes. Row 1 (the
-// buffer) and row 11 (over 127 situations) are decided here, rows 2 to 10 in policycheck; stated in definitions/specs/Build.antt and Refusal.antt.
+// buffer) and row 11 (over 127 situations) are decided here, the others in policycheck; stated in definitions/specs/Build.antt and Refusal.antt.
 ghost use mathlib.Core.Path.{_≡_};
 ghost use Prim.Native.Nat.{_+_, _*_, _<_, _≤_};
 ghost use lib.ListN.{length};
@@ -8,12 +8,12 @@ ghost use Rattle.automaton.specs.Ordered.{Ordered};
 ghost use Rattle.automaton.specs.Table.{tabled};
 ghost use Rattle.definitions.specs.Answer.{written};
 ghost use Rattle.definitions.specs.Bytes.{byte};
-ghost use Rattle.definitions.specs.Policy.{fields, width, frame};
+ghost use Rattle.definitions.specs.Policy.{fields, frame};
 ghost use Rattle.definitions.specs.Book.{bookBytes};
-ghost use Rattle.definitions.specs.Refusal.{fileRefusal};
 ghost use Rattle.definitions.specs.Build.{buildAnswer, buildBuffer};
 ghost use Rattle.definitions.specs.Rows.{rowsIn, TableIn};
 ghost use Rattle.build.specs.BuiltAnswer.{builtAnswer};
+ghost use Rattle.build.specs.Buildable.{Buildable};
 use automaton::wide;
 use policy::shape::Shape;
 use situation::Situation;
@@ -62,16 +62,21 @@ pub enum Built {
     Written(usize),
 }
 
-// The book of a policy that no row up to 10 refuses. Row 11, over 127 situations, leaves the buffer unchanged, and so are the bytes after a book. `images` and
-// `raw` are room to work in; nothing is said of what they hold afterwards.
-fn build_in(policy: &[u8], book: &mut [u8], images: &mut [u64], raw: &mut [u8]) -> Built
-    requires { ⌜ (fileRefusal (now policy) ≡ 0) × (17284 ≤ length (now book)) ⌝ }
-    requires { ⌜ (64 * width (now policy) ≤ length (now images)) × (127 * width (now policy) ≤ length (now raw)) ⌝ }
+// The book of a policy that no row before row 11 refuses. Row 11, over 127 situations, leaves the buffer unchanged, and so are the bytes after a book. `images`
+// and `raw` are room to work in; nothing is said of what they hold afterwards.
+fn build_in(
+    policy: &[u8],
+    shape: Shape,
+    book: &mut [u8],
+    images: &mut [u64],
+    raw: &mut [u8],
+) -> Built
+    requires { ⌜ Buildable (now policy) shape (now book) ⌝ }
+    requires { ⌜ (shape .valuations * shape .width ≤ length (now images)) × (127 * shape .width ≤ length (now raw)) ⌝ }
     ensures { λ r. ⌜ builtAnswer r ≡ buildAnswer (now (policy .entry)) (now (book .entry)) ⌝ }
     ensures { λ r. ⌜ now (book .exit) ≡ buildBuffer (now (policy .entry)) (now (book .entry)) ⌝ }
 {
     let mut found = [0u64; 128];
-    let shape = Shape::of(policy);
     let w = shape.width;
     images::fill_images(policy, shape, images);
     let start = Situation::start(shape.start);
@@ -83,25 +88,51 @@ fn build_in(policy: &[u8], book: &mut [u8], images: &mut [u64], raw: &mut [u8]) 
 }
 
 // The same, with room for every policy. The size of an array is a constant, so that each size has a function of its own.
-fn build_wide(policy: &[u8], book: &mut [u8]) -> Built
-    requires { ⌜ (fileRefusal (now policy) ≡ 0) × (17284 ≤ length (now book)) ⌝ }
+fn build_wide(policy: &[u8], shape: Shape, book: &mut [u8]) -> Built
+    requires { ⌜ Buildable (now policy) shape (now book) ⌝ }
     ensures { λ r. ⌜ builtAnswer r ≡ buildAnswer (now (policy .entry)) (now (book .entry)) ⌝ }
     ensures { λ r. ⌜ now (book .exit) ≡ buildBuffer (now (policy .entry)) (now (book .entry)) ⌝ }
 {
     let mut images = [0u64; 8704];
     let mut raw = [0u8; 17272];
-    build_in(policy, book, &mut images, &mut raw)
+    build_in(policy, shape, book, &mut images, &mut raw)
 }
 
 // The same for a policy of at most 32 codes: smaller arrays are cleared faster.
-fn build_narrow(policy: &[u8], book: &mut [u8]) -> Built
-    requires { ⌜ (fileRefusal (now policy) ≡ 0) × (17284 ≤ length (now book)) × (width (now policy) ≤ 32) ⌝ }
+fn build_narrow(policy: &[u8], shape: Shape, book: &mut [u8]) -> Built
+    requires { ⌜ Buildable (now policy) shape (now book) × (shape .width ≤ 32) ⌝ }
     ensures { λ r. ⌜ builtAnswer r ≡ buildAnswer (now (policy .entry)) (now (book .entry)) ⌝ }
     ensures { λ r. ⌜ now (book .exit) ≡ buildBuffer (now (policy .entry)) (now (book .entry)) ⌝ }
 {
     let mut images = [0u64; 2048];
     let mut raw = [0u8; 4064];
-    build_in(policy, book, &mut images, &mut raw)
+    build_in(policy, shape, book, &mut images, &mut raw)
+}
+
+// The same where the images are few as well.
+fn build_small(policy: &[u8], shape: Shape, book: &mut [u8]) -> Built
+    requires { ⌜ Buildable (now policy) shape (now book) × (shape .width ≤ 32) × (shape .valuations * shape .width ≤ 512) ⌝ }
+    ensures { λ r. ⌜ builtAnswer r ≡ buildAnswer (now (policy .entry)) (now (book .entry)) ⌝ }
+    ensures { λ r. ⌜ now (book .exit) ≡ buildBuffer (now (policy .entry)) (now (book .entry)) ⌝ }
+{
+    let mut images = [0u64; 512];
+    let mut raw = [0u8; 4064];
+    build_in(policy, shape, book, &mut images, &mut raw)
+}
+
+// With the room that the policy's numbers ask for.
+fn build_sized(policy: &[u8], shape: Shape, book: &mut [u8]) -> Built
+    requires { ⌜ Buildable (now policy) shape (now book) ⌝ }
+    ensures { λ r. ⌜ builtAnswer r ≡ buildAnswer (now (policy .entry)) (now (book .entry)) ⌝ }
+    ensures { λ r. ⌜ now (book .exit) ≡ buildBuffer (now (policy .entry)) (now (book .entry)) ⌝ }
+{
+    if 32 < shape.width {
+        return build_wide(policy, shape, book);
+    }
+    if 512 < shape.valuations * shape.width {
+        return build_narrow(policy, shape, book);
+    }
+    build_small(policy, shape, book)
 }
 
 // The book of a policy, in the first bytes of the buffer; the bytes after it are unchanged. A refusal leaves the whole buffer as it was.
@@ -116,8 +147,5 @@ pub fn build(policy: &[u8], book: &mut [u8]) -> Built
     if number != 0 {
         return Built::Refused(number);
     }
-    if policy::counts::requests(policy) <= 12 {
-        return build_narrow(policy, book);
-    }
-    build_wide(policy, book)
+    build_sized(policy, Shape::of(policy), book)
 }

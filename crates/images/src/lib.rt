@@ -34,11 +34,16 @@ fn fill_ranks(policy: &[u8], table: &[u8], ranks: &mut [usize])
 }
 
 // Entry k is the valuation that carrying out rule k leads to.
-fn fill_targets(policy: &[u8], bounds: &[usize], values: &[usize], targets: &mut [usize])
-    requires { ⌜ Passed (now policy) × Tabled (variables (now policy)) (bound (now policy)) (now bounds) × Valued (now policy) (now values) × (rules (now policy) ≤ length (now targets)) ⌝ }
+fn fill_targets(
+    policy: &[u8],
+    table: &[u8],
+    bounds: &[usize],
+    values: &[usize],
+    targets: &mut [usize],
+)
+    requires { ⌜ Passed (now policy) × Tabled (variables (now policy)) (bound (now policy)) (now bounds) × Valued (now policy) (now values) × (rules (now policy) ≤ length (now targets)) × TableOf (now policy) (now table) ⌝ }
     ensures { λ _. ⌜ Tabled (rules (now (policy .entry))) (ruleTarget (now (policy .entry)) (entryOf (now (values .entry)))) (now (targets .exit)) ⌝ }
 {
-    let table = part::rule_table(policy);
     let n = header::rules(policy);
     let first = 2 * header::fields(policy) + 4;
     let mut k = 0;
@@ -50,11 +55,11 @@ fn fill_targets(policy: &[u8], bounds: &[usize], values: &[usize], targets: &mut
 }
 
 // Entry e is the set of the one valuation that event e leads to.
-fn fill_events(policy: &[u8], bounds: &[usize], values: &[usize], row: &mut [u64])
-    requires { ⌜ Passed (now policy) × Tabled (variables (now policy)) (bound (now policy)) (now bounds) × Valued (now policy) (now values) × (events (now policy) ≤ length (now row)) ⌝ }
+fn fill_events(policy: &[u8], table: &[u8], bounds: &[usize], values: &[usize], row: &mut [u64])
+    requires { ⌜ Passed (now policy) × Tabled (variables (now policy)) (bound (now policy)) (now bounds) × Valued (now policy) (now values) × (events (now policy) ≤ length (now row)) × TableOf (now policy) (now table) ⌝ }
     ensures { λ _. ⌜ Tabled (events (now (policy .entry))) (eventFrom (now (policy .entry)) (entryOf (now (values .entry)))) (now (row .exit)) ⌝ }
 {
-    let changes = part::changes(policy, part::rule_table(policy));
+    let changes = part::changes(policy, table);
     let n = header::events(policy);
     let step = header::variables(policy);
     let mut e = 0;
@@ -69,50 +74,61 @@ fn fill_events(policy: &[u8], bounds: &[usize], values: &[usize], row: &mut [u64
 // Entries 2r and 2r + 1 are where request r leads, accepted and rejected.
 fn fill_decided(
     policy: &[u8],
+    table: &[u8],
     bounds: &[usize],
     sets: &[u64],
     ranks: &[usize],
     values: &[usize],
     row: &mut [u64],
 )
-    requires { ⌜ Prepared (now policy) (now bounds) (now sets) (now ranks) × Valued (now policy) (now values) × (2 * requests (now policy) ≤ length (now row)) ⌝ }
+    requires { ⌜ Prepared (now policy) (now bounds) (now sets) (now ranks) × Valued (now policy) (now values) × (2 * requests (now policy) ≤ length (now row)) × TableOf (now policy) (now table) ⌝ }
     ensures { λ _. ⌜ DecidedBy (now (policy .entry)) (now (values .entry)) (now (row .exit)) ⌝ }
 {
     let mut targets = [0usize; 32];
-    fill_targets(policy, bounds, values, &mut targets);
-    let enabled = effects::rules_enabled(policy, part::rule_table(policy), values);
+    fill_targets(policy, table, bounds, values, &mut targets);
+    let enabled = effects::rules_enabled(policy, table, values);
     deciding::fill_requests(sets, enabled, ranks, &targets, row);
 }
 
 // Entry c is where code c leads from v.
 fn fill_row(
     policy: &[u8],
+    table: &[u8],
     bounds: &[usize],
     sets: &[u64],
     ranks: &[usize],
     v: usize,
     row: &mut [u64],
 )
-    requires { ⌜ Prepared (now policy) (now bounds) (now sets) (now ranks) × (width (now policy) ≤ length (now row)) ⌝ }
+    requires { ⌜ Prepared (now policy) (now bounds) (now sets) (now ranks) × (width (now policy) ≤ length (now row)) × TableOf (now policy) (now table) ⌝ }
     ensures { λ _. ⌜ Tabled (width (now (policy .entry))) (imageFrom (now (policy .entry)) v) (now (row .exit)) ⌝ }
 {
     let mut values = [0usize; 4];
     effects::fill_variables(policy, bounds, v, &mut values);
-    fill_events(policy, bounds, &values, row);
+    fill_events(policy, table, bounds, &values, row);
     let first = header::events(policy);
-    fill_decided(policy, bounds, sets, ranks, &values, &mut row[first..]);
+    fill_decided(
+        policy,
+        table,
+        bounds,
+        sets,
+        ranks,
+        &values,
+        &mut row[first..],
+    );
 }
 
 // Entry v × w + c is where code c leads from valuation v.
 fn fill_rows(
     policy: &[u8],
+    table: &[u8],
     shape: Shape,
     bounds: &[usize],
     sets: &[u64],
     ranks: &[usize],
     images: &mut [u64],
 )
-    requires { ⌜ (shape ≡ shapeOf (now policy)) × Prepared (now policy) (now bounds) (now sets) (now ranks) × (valuations (now policy) * width (now policy) ≤ length (now images)) ⌝ }
+    requires { ⌜ (shape ≡ shapeOf (now policy)) × Prepared (now policy) (now bounds) (now sets) (now ranks) × (valuations (now policy) * width (now policy) ≤ length (now images)) × TableOf (now policy) (now table) ⌝ }
     ensures { λ _. ⌜ Tabled (valuations (now (policy .entry)) * width (now (policy .entry))) (imageEntry (now (policy .entry))) (now (images .exit)) ⌝ }
 {
     let w = shape.width;
@@ -120,7 +136,7 @@ fn fill_rows(
     let mut v = 0;
     while v < n {
         let at = v * w;
-        fill_row(policy, bounds, sets, ranks, v, &mut images[at..]);
+        fill_row(policy, table, bounds, sets, ranks, v, &mut images[at..]);
         v += 1;
     }
 }
@@ -138,5 +154,5 @@ pub fn fill_images(policy: &[u8], shape: Shape, images: &mut [u64])
     matching::fill_matching(policy, table, &mut sets);
     fill_ranks(policy, table, &mut ranks);
     let q = shape.requests;
-    fill_rows(policy, shape, &bounds, &sets[..q], &ranks, images);
+    fill_rows(policy, table, shape, &bounds, &sets[..q], &ranks, images);
 }

@@ -1,6 +1,5 @@
 -- `build_wide` meets its contract: there is room for 136 codes.
-use Rattle.build.proofs.PolicySizes.{width-low}
-use native.Mathlib.Omega.{arith}
+use Rattle.build.proofs.PolicySizes.{room-wide}
 use borrow.Author.Needs.{needs}
 use Rattle.build.proofs.build_wide.Statement.{statement}
 use Rattle.build.proofs.build_wide.Tie as tie
@@ -14,8 +13,8 @@ slice-aggregate-build-in-2 c = search needs
 build-in-requires : tie.Need-build-in-requires
 build-in-requires c κs =
     let p = c .before .before .before .before .before in
-    let low = width-low (p .args .policy .now) (p .pre .0) in
-    ((p .pre .0, p .pre .1), (omega arith, omega arith))
+    let fits = room-wide (p .args .policy .now) (p .pre .file) (p .args .shape) (p .pre .numbers) in
+    (p .pre, fits)
 
 same-length : tie.Need-same-length
 same-length c = search needs

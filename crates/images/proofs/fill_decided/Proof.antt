@@ -11,9 +11,6 @@ slice-aggregate-fill-targets c = search needs
 fill-targets-requires : tie.Need-fill-targets-requires
 fill-targets-requires c κs = search needs
 
-rule-table-requires : tie.Need-rule-table-requires
-rule-table-requires c κs = search needs
-
 rules-enabled-requires : tie.Need-rules-enabled-requires
 rules-enabled-requires c κs = search needs
 
@@ -24,9 +21,9 @@ fill-requests-requires : tie.Need-fill-requests-requires
 fill-requests-requires c κs =
     let start = c .before .before .before .before .before .before .before .before .before .before .before .before .before in
     let a = start .args in
-    let targets = c .before .before .before .before .before .fill-targets in
+    let targets = c .before .before .before .before .fill-targets in
     let enabled = c .before .before .rules-enabled in (
-      rules-listed (a .policy .now) (a .bounds .now) (a .sets .now) (a .ranks .now) (a .values .now) (targets .last .1 .1 .1 .0) (enabled .result) (start .pre .0) (enabled .ensures) (targets .ensures) (start .pre .1),
+      rules-listed (a .policy .now) (a .bounds .now) (a .sets .now) (a .ranks .now) (a .values .now) (targets .last .1 .1 .1 .1 .0) (enabled .result) (start .pre .0) (enabled .ensures) (targets .ensures) (start .pre .1),
       omega (arith, start .pre .0 .counted, start .pre .2),
     )
 
@@ -37,9 +34,9 @@ returns : tie.Need-returns
 returns c =
     let start = c .before .before .before .before .before .before .before .before .before .before .before .before .before .before .before .before in
     let a = start .args in
-    let targets = c .before .before .before .before .before .before .before .before .fill-targets in
+    let targets = c .before .before .before .before .before .before .before .fill-targets in
     let enabled = c .before .before .before .before .before .rules-enabled in
-    row-decided (a .policy .now) (a .bounds .now) (a .sets .now) (a .ranks .now) (a .values .now) (targets .last .1 .1 .1 .0) (enabled .result) (start .pre .0) (enabled .ensures) (targets .ensures) _
+    row-decided (a .policy .now) (a .bounds .now) (a .sets .now) (a .ranks .now) (a .values .now) (targets .last .1 .1 .1 .1 .0) (enabled .result) (start .pre .0) (enabled .ensures) (targets .ensures) _
     (c .before .before .fill-requests .ensures)
 
 pub fill-decided-spec : {M : Type 1} → statement M
@@ -48,7 +45,6 @@ fill-decided-spec =
     (tie.spec
     slice-aggregate-fill-targets
     fill-targets-requires
-    rule-table-requires
     rules-enabled-requires
     slice-aggregate-fill-requests
     fill-requests-requires

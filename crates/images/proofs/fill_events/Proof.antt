@@ -16,16 +16,13 @@ use Rattle.images.proofs.fill_events.Statement.{statement}
 use Rattle.images.proofs.fill_events.Tie as tie
 
 abbrev Inv-loop : tie.InvT-loop
-Inv-loop policy bounds values row₀ changes n step e₀ row e = (e ≤ n) × FilledUpTo (eventFrom policy (entryOf values)) row₀ e row
+Inv-loop policy table bounds values row₀ changes n step e₀ row e = (e ≤ n) × FilledUpTo (eventFrom policy (entryOf values)) row₀ e row
 
 abbrev μ-loop : tie.MeasureT-loop
-μ-loop policy bounds values row₀ changes n step e₀ row e = n - e
+μ-loop policy table bounds values row₀ changes n step e₀ row e = n - e
 
 room : (c : tie.In-loop Inv-loop μ-loop) → c .before .loop .e < length (c .before .before .before .before .before .before .before .before .before .before .args .row .now)
 room c = omega (arith, c .before .before .before .before .before .before .before .before .before .before .pre .3)
-
-rule-table-requires : tie.Need-rule-table-requires Inv-loop μ-loop
-rule-table-requires c κs = search needs
 
 changes-requires : tie.Need-changes-requires Inv-loop μ-loop
 changes-requires c κs = search needs
@@ -91,7 +88,6 @@ fill-events-spec =
     (tie.spec
     Inv-loop
     μ-loop
-    rule-table-requires
     changes-requires
     events-requires
     variables-requires

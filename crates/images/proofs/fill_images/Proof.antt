@@ -64,6 +64,7 @@ fill-rows-requires c κs =
         ranked = c .before .before .before .before .before .fill-ranks .ensures;
       },
       start .pre .2,
+      c .before .before .before .before .before .before .before .before .before .before .before .before .before .rule-table .ensures,
     )
 
 same-length : tie.Need-same-length

@@ -19,9 +19,9 @@ slice-aggregate-fill-events c = search needs
 
 fill-events-requires : tie.Need-fill-events-requires
 fill-events-requires c κs =
-    let start = c .before .before .before .before .before .before .before .before .before .before in
+    let start = c .before .before .before .before .before .before .before .before .before .before .before in
     let values = c .before .before .before .fill-variables in
-    (start .pre .0 .passed, start .pre .0 .bounded, valued (start .args .policy .now) (start .args .v) _ (values .ensures), omega (arith, start .pre .1))
+    (start .pre .0 .passed, start .pre .0 .bounded, valued (start .args .policy .now) (start .args .v) _ (values .ensures), omega (arith, start .pre .1), start .pre .2)
 
 events-requires : tie.Need-events-requires
 events-requires c κs = search needs
@@ -43,23 +43,23 @@ part-fill-decided-end c = search needs
 
 fill-decided-requires : tie.Need-fill-decided-requires
 fill-decided-requires c κs =
-    let start = c .before .before .before .before .before .before .before .before .before .before .before .before .before .before .before .before in
+    let start = c .before .before .before .before .before .before .before .before .before .before .before .before .before .before .before .before .before in
     let values = c .before .before .before .before .before .before .before .before .before .fill-variables in
-    let kept = c .before .before .before .before .before .fill-events .kept .1 .1 .1 .0 in
-    (start .pre .0, valued (start .args .policy .now) (start .args .v) _ (values .ensures), rw (part-is-drop, length-drop) (omega (arith, kept, start .pre .1, c .before .before .events .ensures .0)))
+    let kept = c .before .before .before .before .before .fill-events .kept .1 .1 .1 .1 .0 in
+    (start .pre .0, valued (start .args .policy .now) (start .args .v) _ (values .ensures), rw (part-is-drop, length-drop) (omega (arith, kept, start .pre .1, c .before .before .events .ensures .0)), start .pre .2)
 
 same-length : tie.Need-same-length
 same-length c = search needs
 
 returns : tie.Need-returns
 returns c =
-    let start = c .before .before .before .before .before .before .before .before .before .before .before .before .before .before .before .before .before .before .before in
+    let start = c .before .before .before .before .before .before .before .before .before .before .before .before .before .before .before .before .before .before .before .before in
     let values = c .before .before .before .before .before .before .before .before .before .before .before .before .fill-variables in
     let row = c .before .before .before .before .before .before .before .before .fill-events in
     let first = c .before .before .before .before .before .events in
     let decided = c .before .before .fill-decided in
-    row-imaged (start .args .policy .now) (values .last .1 .1 .1 .0) (start .args .v) (first .result) (row .last .1 .1 .1 .0) (decided .last .1 .1 .1 .1 .1 .0) (values .ensures) (first .ensures .0)
-    (omega (arith, row .kept .1 .1 .1 .0, start .pre .1)) (row .ensures) (decided .kept .1 .1 .1 .1 .1 .0) (decided .ensures)
+    row-imaged (start .args .policy .now) (values .last .1 .1 .1 .0) (start .args .v) (first .result) (row .last .1 .1 .1 .1 .0) (decided .last .1 .1 .1 .1 .1 .1 .0) (values .ensures) (first .ensures .0)
+    (omega (arith, row .kept .1 .1 .1 .1 .0, start .pre .1)) (row .ensures) (decided .kept .1 .1 .1 .1 .1 .1 .0) (decided .ensures)
 
 pub fill-row-spec : {M : Type 1} → statement M
 fill-row-spec =

@@ -18,10 +18,10 @@ use Rattle.images.proofs.fill_rows.Statement.{statement}
 use Rattle.images.proofs.fill_rows.Tie as tie
 
 abbrev Inv-loop : tie.InvT-loop
-Inv-loop policy bounds sets ranks images₀ w n v₀ images v = (v ≤ n) × (length images ≡ length images₀) × Tabled (v * w) (imageEntry policy) images
+Inv-loop policy table bounds sets ranks images₀ w n v₀ images v = (v ≤ n) × (length images ≡ length images₀) × Tabled (v * w) (imageEntry policy) images
 
 abbrev μ-loop : tie.MeasureT-loop
-μ-loop policy bounds sets ranks images₀ w n v₀ images v = n - v
+μ-loop policy table bounds sets ranks images₀ w n v₀ images v = n - v
 
 width-is : (c : tie.Start Inv-loop μ-loop) → c .args .shape .width ≡ width (c .args .policy .now)
 width-is c = ap (λ (s : Shape). s .width) (c .pre .0)
@@ -33,16 +33,16 @@ all-fit : (c : tie.Start Inv-loop μ-loop) → c .args .shape .valuations * c .a
 all-fit c = rw (valuations-are c, width-is c) (c .pre .2)
 
 within : (c : tie.In-loop Inv-loop μ-loop)
-    → let start = c .before .before .before .before .before .before .before in
+    → let start = c .before .before .before .before .before .before .before .before in
     c .before .loop .v * start .args .shape .width + start .args .shape .width ≤ length (c .before .loop .images)
 within c =
-    let start = c .before .before .before .before .before .before .before in
+    let start = c .before .before .before .before .before .before .before .before in
     let h = row-within (c .before .loop .v) (start .args .shape .valuations) (start .args .shape .width) (c .loop-test .taken) in
     omega (arith, all-fit start, c .before .loop .inv .1)
 
 loop-holds : tie.Need-loop-holds Inv-loop μ-loop
 loop-holds c =
-    let a = c .before .before .before .before .before .args in
+    let a = c .before .before .before .before .before .before .args in
     (search needs, refl, rw zero-mul (tabled-none (imageEntry (a .policy .now)) (a .images .now)))
 
 mul-at : tie.Need-mul-at Inv-loop μ-loop
@@ -62,8 +62,8 @@ part-fill-row-end c = search needs
 
 fill-row-requires : tie.Need-fill-row-requires Inv-loop μ-loop
 fill-row-requires c κs =
-    let start = c .before .before .before .before .before .before .before .before in
-    (start .pre .1, rw (part-is-drop, length-drop) (omega (arith, within (c .before), width-is start)))
+    let start = c .before .before .before .before .before .before .before .before .before in
+    (start .pre .1, rw (part-is-drop, length-drop) (omega (arith, within (c .before), width-is start)), start .pre .3)
 
 add-v : tie.Need-add-v Inv-loop μ-loop
 add-v c = search needs
@@ -73,13 +73,13 @@ loop-less c = search needs
 
 loop-again : tie.Need-loop-again Inv-loop μ-loop
 loop-again c =
-    let start = c .before .before .before .before .before .before .before .before .before .before .before in
+    let start = c .before .before .before .before .before .before .before .before .before .before .before .before in
     let loop = c .before .before .before .before .before .loop in
     let row = c .before .before .fill-row in
     let w = start .args .shape .width in (
       omega arith,
-      same-len-mid (loop .v * w) (length (loop .images) - loop .v * w) (loop .images) (row .last .1 .1 .1 .1 .1 .0) (row .kept .1 .1 .1 .1 .1 .0) ∙ loop .inv .1,
-      rows-more (start .args .policy .now) w (loop .v) (loop .images) _ (width-is start) (within (c .before .before .before .before)) (loop .inv .2) (row .kept .1 .1 .1 .1 .1 .0) (row .ensures),
+      same-len-mid (loop .v * w) (length (loop .images) - loop .v * w) (loop .images) (row .last .1 .1 .1 .1 .1 .1 .0) (row .kept .1 .1 .1 .1 .1 .1 .0) ∙ loop .inv .1,
+      rows-more (start .args .policy .now) w (loop .v) (loop .images) _ (width-is start) (within (c .before .before .before .before)) (loop .inv .2) (row .kept .1 .1 .1 .1 .1 .1 .0) (row .ensures),
     )
 
 same-length : tie.Need-same-length Inv-loop μ-loop
@@ -87,7 +87,7 @@ same-length c = c .before .loop .inv .1
 
 returns : tie.Need-returns Inv-loop μ-loop
 returns c =
-    let start = c .before .before .before .before .before .before .before in
+    let start = c .before .before .before .before .before .before .before .before in
     let e : c .before .loop .v ≡ start .args .shape .valuations = omega arith in
     rw (← (valuations-are start), ← (width-is start), ← e) (c .before .loop .inv .2)
 

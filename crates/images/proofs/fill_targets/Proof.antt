@@ -13,13 +13,10 @@ use Rattle.images.proofs.fill_targets.Statement.{statement}
 use Rattle.images.proofs.fill_targets.Tie as tie
 
 abbrev Inv-loop : tie.InvT-loop
-Inv-loop policy bounds values targets₀ table n first k₀ targets k = (k ≤ n) × FilledUpTo (ruleTarget policy (entryOf values)) targets₀ k targets
+Inv-loop policy table bounds values targets₀ n first k₀ targets k = (k ≤ n) × FilledUpTo (ruleTarget policy (entryOf values)) targets₀ k targets
 
 abbrev μ-loop : tie.MeasureT-loop
-μ-loop policy bounds values targets₀ table n first k₀ targets k = n - k
-
-rule-table-requires : tie.Need-rule-table-requires Inv-loop μ-loop
-rule-table-requires c κs = search needs
+μ-loop policy table bounds values targets₀ n first k₀ targets k = n - k
 
 rules-requires : tie.Need-rules-requires Inv-loop μ-loop
 rules-requires c κs = search needs
@@ -79,7 +76,6 @@ fill-targets-spec =
     (tie.spec
     Inv-loop
     μ-loop
-    rule-table-requires
     rules-requires
     fields-requires
     mul-first
