@@ -23,12 +23,15 @@ static void push(struct bytes *out, unsigned byte) { out->at[out->length++] = (u
 static void draw_policy(struct bytes *p)
 {
     unsigned events = below(9), fields = 1 + below(4), variables = below(5), rules = 1 + below(below(2) ? 32 : 6), count[4], bound[4];
-    memcpy(p->at, "POL\0\1", p->length = 5);
-    push(p, events), push(p, fields), push(p, variables), push(p, rules);
+    unsigned version = 1 + below(2);
+    memcpy(p->at, "POL\0", p->length = 4);
+    push(p, version), push(p, events), push(p, fields), push(p, variables), push(p, rules);
     for (unsigned f = 0, left = 64; f < fields; f++, left /= count[f - 1])
         push(p, count[f] = 1 + below(left < 16 ? left : below(2) ? 16 : 3));
     for (unsigned j = 0, left = 64; j < variables; j++, left /= bound[j - 1] + 1)
         bound[j] = below(left < 8 || below(3) == 0 ? left : 8);
+    for (unsigned j = 0; version == 2 && j < variables; j++)
+        push(p, below(4) ? below(bound[j] + 2) : below(65));
     for (unsigned k = 0; k < rules; k++) {
         for (unsigned f = 0; f < fields; f++) {
             unsigned mask = below(3) == 0 ? (1u << count[f]) - 1 : 1 + below((1u << count[f]) - 1);

@@ -38,6 +38,17 @@ void forty_states(struct bytes *policy)
     PUT(policy, 1, 0);                               /* a complaint counts as an opening */
 }
 
+void forty_states_started(struct bytes *policy)
+{
+    struct bytes plain;
+    forty_states(&plain);
+    policy->length = 0;
+    put(policy, plain.at, 11);
+    policy->at[4] = 2;
+    PUT(policy, 2, 3);
+    put(policy, plain.at + 11, plain.length - 11);
+}
+
 void many_states(struct bytes *policy, unsigned top, unsigned events, unsigned high, unsigned low, unsigned rules)
 {
     unsigned half = (1u << high / 2) - 1;

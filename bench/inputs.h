@@ -18,6 +18,9 @@ void case_s(struct bytes *policy);
 /* A reading room's policy with two counters: 40 situations, 40 states, 26 codes. */
 void forty_states(struct bytes *policy);
 
+/* The same as a file of version 2, in which two openings and three copies have been counted before the first step. */
+void forty_states_started(struct bytes *policy);
+
 /*
  * 2 × top + 1 situations and as many states, for top from 2 to 63: the sets {k} and {k, k + 1}. Requests have two fields, of `high` values (an even
  * number) and of `low`; `events` is how many events there are, `rules` how many rules, 5 or more.

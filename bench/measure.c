@@ -83,6 +83,8 @@ static void print_jobs(struct job *j)
     policy_rows("case S", j);
     forty_states(&j->policy);
     policy_rows("40 states", j);
+    forty_states_started(&j->policy);
+    row("build", "40 states, version 2", measure_build, j);
     many_states(&j->policy, 63, 8, 16, 4, 5);
     policy_rows("127 states, 136 codes", j);
     book_rows("books 127 × 136", j);

@@ -16,12 +16,12 @@ namespace {
 using fst::StdArc;
 using Weight = StdArc::Weight;
 
-automaton *with_states(unsigned count)
+automaton *with_states(unsigned count, unsigned start)
 {
     auto *made = new automaton;
     for (unsigned s = 0; s < count; s++)
         made->machine.SetFinal(made->machine.AddState(), Weight::One());
-    made->machine.SetStart(0);
+    made->machine.SetStart(static_cast<int>(start));
     return made;
 }
 
@@ -40,7 +40,7 @@ automaton *openfst_of_policy(const uint8_t *bytes, size_t length)
     if (read_policy(bytes, length, &p) != 0)
         return nullptr;
     fill_images(&p, image);
-    automaton *made = with_states(p.valuations);
+    automaton *made = with_states(p.valuations, p.start);
     for (unsigned v = 0; v < p.valuations; v++)
         for (unsigned c = 0; c < p.width; c++)
             for (uint64_t left = image[v][c]; left != 0; left &= left - 1)
@@ -51,7 +51,7 @@ automaton *openfst_of_policy(const uint8_t *bytes, size_t length)
 automaton *openfst_of_book(const uint8_t *book, size_t length)
 {
     unsigned states = book[11], width = static_cast<unsigned>((length - 12) / states);
-    automaton *made = with_states(states);
+    automaton *made = with_states(states, 0);
     for (unsigned s = 0; s < states; s++)
         for (unsigned c = 0; c < width; c++)
             if (book[12 + s * width + c] != 0)

@@ -36,7 +36,7 @@ static unsigned explore(const struct policy *p, images image, rows raw)
     struct found found;
     memset(found.slot, 0, sizeof found.slot);
     found.count = 0;
-    number_of(&found, 1);
+    number_of(&found, (uint64_t)1 << p->start);
     for (unsigned s = 1; s <= found.count; s++) {
         uint64_t next[MOST_CODES] = { 0 };
         for (uint64_t left = found.set[s]; left != 0; left &= left - 1) {

@@ -9,7 +9,7 @@ static unsigned read_frame(const uint8_t *bytes, size_t length, struct policy *p
         return 2;
     if (memcmp(bytes, "POL", 3) != 0)
         return 3;
-    if (bytes[3] != 0 || bytes[4] != 1)
+    if (bytes[3] != 0 || (bytes[4] != 1 && bytes[4] != 2))
         return 4;
     p->events = bytes[5];
     p->fields = bytes[6];
@@ -18,7 +18,8 @@ static unsigned read_frame(const uint8_t *bytes, size_t length, struct policy *p
     if (p->events > MOST_EVENTS || p->fields < 1 || p->fields > MOST_FIELDS || p->variables > MOST_VARIABLES || p->rules < 1
         || p->rules > MOST_RULES)
         return 5;
-    if (length != 9 + p->fields + p->rules * (2 * p->fields + 2 + 3 * p->variables) + p->events * p->variables)
+    p->starts = bytes[4] == 2 ? p->variables : 0;
+    if (length != 9 + p->fields + p->starts + p->rules * (2 * p->fields + 2 + 3 * p->variables) + p->events * p->variables)
         return 6;
     p->requests = 1;
     for (unsigned f = 0; f < p->fields; f++) {
@@ -29,6 +30,9 @@ static unsigned read_frame(const uint8_t *bytes, size_t length, struct policy *p
     }
     if (p->requests > MOST_REQUESTS)
         return 7;
+    for (unsigned j = 0; j < p->starts; j++)
+        if (bytes[9 + p->fields + j] > 63)
+            return 17;
     p->width = p->events + 2 * p->requests;
     return 0;
 }
@@ -83,13 +87,26 @@ static unsigned find_bounds(struct policy *p)
     return p->valuations > MOST_VALUATIONS ? 10 : 0;
 }
 
+/* The valuation before any step, from the starting values that the file carries. */
+static unsigned start_of(const struct policy *p, const uint8_t *starts)
+{
+    unsigned start = 0;
+    for (unsigned j = p->starts; j-- > 0;) {
+        unsigned x = starts[j] < p->bound[j] ? starts[j] : p->bound[j];
+        start = start * (p->bound[j] + 1) + x;
+    }
+    return start;
+}
+
 unsigned read_policy(const uint8_t *bytes, size_t length, struct policy *p)
 {
     unsigned refusal = read_frame(bytes, length, p);
     if (refusal == 0)
-        refusal = read_records(bytes + 9 + p->fields, p);
+        refusal = read_records(bytes + 9 + p->fields + p->starts, p);
     if (refusal == 0)
         refusal = find_bounds(p);
+    if (refusal == 0)
+        p->start = start_of(p, bytes + 9 + p->fields);
     return refusal;
 }
 

@@ -23,7 +23,7 @@ struct rule {
 };
 
 struct policy {
-    unsigned events, fields, variables, rules, requests, width, valuations;
+    unsigned events, fields, variables, rules, requests, width, valuations, starts, start;
     unsigned count[MOST_FIELDS], bound[MOST_VARIABLES];
     struct rule rule[MOST_RULES];
     uint8_t event[MOST_EVENTS][MOST_VARIABLES];
@@ -32,7 +32,7 @@ struct policy {
 /* image[v][c] is the set of valuations that code c leads to from valuation v. */
 typedef uint64_t images[MOST_VALUATIONS][MOST_CODES];
 
-/* The number of the refusal, 2 to 10, or 0 if the file is read. */
+/* The number of the refusal, 2 to 10 or 17, or 0 if the file is read. */
 unsigned read_policy(const uint8_t *bytes, size_t length, struct policy *policy);
 
 void fill_images(const struct policy *policy, images image);

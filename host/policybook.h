@@ -42,18 +42,21 @@ extern "C" {
 #define POLICYBOOK_PAGE_SIZE     9271 /* page: the page; none is longer */
 
 /* No policy is longer. A host that reads one byte more of a longer file gets the refusal that the whole file would get. */
-#define POLICYBOOK_POLICY_MOST    749
+#define POLICYBOOK_POLICY_MOST    753
 
-/* The numbers of the refusals. Where several fit, the lowest is given; POLICYBOOK_SHORT_BUFFER comes before all. */
+/*
+ * The numbers of the refusals. Where several fit, the one that comes first below is given; the list is in the order in which they are judged.
+ */
 enum policybook_refusal {
     POLICYBOOK_OK = 0,                /* nothing was refused */
     POLICYBOOK_SHORT_BUFFER = 1,      /* a lent buffer is too short (every function) */
-    POLICYBOOK_SHORT_POLICY = 2,      /* the policy has under 9 bytes (2 to 11: build) */
+    POLICYBOOK_SHORT_POLICY = 2,      /* the policy has under 9 bytes (2 to 11 and 17: build) */
     POLICYBOOK_POLICY_MARK = 3,       /* its mark is not POL */
-    POLICYBOOK_POLICY_VERSION = 4,    /* its version is not 1 */
+    POLICYBOOK_POLICY_VERSION = 4,    /* its version is neither 1 nor 2 */
     POLICYBOOK_POLICY_RANGE = 5,      /* events are over 8, fields not 1 to 4, variables over 4, or rules not 1 to 32 */
-    POLICYBOOK_POLICY_LENGTH = 6,     /* its length does not follow from those four numbers */
+    POLICYBOOK_POLICY_LENGTH = 6,     /* its length does not follow from its version and those four numbers */
     POLICYBOOK_VALUE_COUNT = 7,       /* a value count is outside 1 to 16, or there are over 64 requests */
+    POLICYBOOK_START = 17,            /* a starting value is above 63 (version 2) */
     POLICYBOOK_MASK = 8,              /* a mask has no bit set, or one at or above its field's count */
     POLICYBOOK_RULE_VALUE = 9,        /* a decision, test or change is outside its values */
     POLICYBOOK_VALUATIONS = 10,       /* there are over 64 valuations of the variables */
@@ -66,7 +69,7 @@ enum policybook_refusal {
 
 /*
  * Builds the book of a policy into book, which has room for POLICYBOOK_BOOK_SIZE bytes.
- * Refused with 1 to 11. Else the value is the book's length; bytes after the book stay.
+ * Refused with 1 to 11 or 17. Else the value is the book's length; bytes after the book stay.
  */
 uint64_t policybook_build(const uint8_t *policy, size_t policy_len, uint8_t *book, size_t book_len);
 
@@ -141,10 +144,11 @@ static inline const char *policybook_refusal_text(unsigned number)
     case POLICYBOOK_SHORT_BUFFER: return "a lent buffer is too small";
     case POLICYBOOK_SHORT_POLICY: return "the policy has fewer than 9 bytes";
     case POLICYBOOK_POLICY_MARK: return "the policy does not begin with the mark POL";
-    case POLICYBOOK_POLICY_VERSION: return "the policy's version is not 1";
+    case POLICYBOOK_POLICY_VERSION: return "the policy's version is neither 1 nor 2";
     case POLICYBOOK_POLICY_RANGE: return "the number of events, fields, variables or rules is outside its range";
     case POLICYBOOK_POLICY_LENGTH: return "the policy's length does not follow from its sizes";
     case POLICYBOOK_VALUE_COUNT: return "a value count is outside 1 to 16, or there are over 64 requests";
+    case POLICYBOOK_START: return "a starting value is above 63";
     case POLICYBOOK_MASK: return "a mask is empty or has a bit at or above its field's count";
     case POLICYBOOK_RULE_VALUE: return "a decision, test or change is outside its values";
     case POLICYBOOK_VALUATIONS: return "there are over 64 valuations";

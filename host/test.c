@@ -29,6 +29,18 @@ static const uint8_t policy_e[] = {
     0x00, 0x02, 0x00, 0x00, 0x02, 0x00, 0x00, 0x00, 0x01, 0x00, 0x00, 0x02, 0x00, 0x00, 0x02,
 };
 
+/* Case E as a file of version 2 whose variable begins at 2, its bound; byte 10 is the start. There the conflict is at the start. */
+static const uint8_t policy_e_started[] = {
+    0x50, 0x4F, 0x4C, 0x00, 0x02, 0x01, 0x01, 0x01, 0x04, 0x02, 0x02,
+    0x00, 0x01, 0x01, 0x00, 0x00, 0x00, 0x00, 0x00, 0x02, 0x01, 0x00, 0x00, 0x02, 0x01,
+    0x00, 0x02, 0x00, 0x00, 0x02, 0x00, 0x00, 0x00, 0x01, 0x00, 0x00, 0x02, 0x00, 0x00, 0x02,
+};
+
+static const uint8_t book_e_started[] = {
+    0x42, 0x4F, 0x4B, 0x00, 0x01, 0x01, 0x01, 0x02, 0x00, 0x00, 0x00, 0x03,
+    0x02, 0x01, 0x01, 0x00, 0x01, 0x02, 0x02, 0x00, 0x03, 0x00, 0x02, 0x03, 0x00, 0x01, 0x00,
+};
+
 static const uint8_t book_e[] = {
     0x42, 0x4F, 0x4B, 0x00, 0x01, 0x01, 0x01, 0x02, 0x00, 0x00, 0x00, 0x03,
     0x01, 0x01, 0x00, 0x02, 0x00, 0x01, 0x02, 0x00, 0x03, 0x00, 0x01, 0x03, 0x03, 0x00, 0x03,
@@ -70,6 +82,30 @@ static void test_build(void)
     expect_build(none, 0, POLICYBOOK_SHORT_BUFFER, book_e, 0);
     free(policy.data);
     free(none.data);
+}
+
+/* Files of version 2: the start at 0, at and above the bound; a start above 63, beside a bad count and a bad mask; the length of version 1. */
+static void test_starting_values(void)
+{
+    const size_t size = POLICYBOOK_BOOK_SIZE, length = sizeof book_e_started;
+    struct bytes policy = exact_copy(policy_e_started, sizeof policy_e_started), short_policy = exact_copy(policy_e_started, sizeof policy_e_started - 1);
+    expect_build(policy, size, 256 * length, book_e_started, length);
+    policy.data[10] = 63;
+    expect_build(policy, size, 256 * length, book_e_started, length);
+    policy.data[10] = 0;
+    expect_build(policy, size, 256 * sizeof book_e, book_e, sizeof book_e);
+    policy.data[10] = 64;
+    expect_build(policy, size, POLICYBOOK_START, book_e, 0);
+    expect_build(policy, size - 1, POLICYBOOK_SHORT_BUFFER, book_e, 0);
+    policy.data[12] = 4; /* a mask: judged after the starts */
+    expect_build(policy, size, POLICYBOOK_START, book_e, 0);
+    policy.data[9] = 17; /* a value count: judged before them */
+    expect_build(policy, size, POLICYBOOK_VALUE_COUNT, book_e, 0);
+    expect_build(short_policy, size, POLICYBOOK_POLICY_LENGTH, book_e, 0);
+    policy.data[4] = 3;
+    expect_build(policy, size, POLICYBOOK_POLICY_VERSION, book_e, 0);
+    free(policy.data);
+    free(short_policy.data);
 }
 
 /* Verdict of a book with buffers of these sizes; the answer, and the three buffers: how many bytes of history each begins with. */
@@ -230,11 +266,13 @@ static void test_reading(void)
     CHECK(!rejected.is_event && rejected.number == 1 && !rejected.accepted);
     CHECK(policybook_value_of(POLICYBOOK_FRAMES) == 0 && policybook_refusal_of(768) == POLICYBOOK_OK);
     CHECK(strcmp(policybook_refusal_text(POLICYBOOK_FRAMES + 1), "no such refusal") == 0);
+    CHECK(strcmp(policybook_refusal_text(POLICYBOOK_START), "a starting value is above 63") == 0);
 }
 
 int main(void)
 {
     test_build();
+    test_starting_values();
     test_verdict();
     test_verdict_refused();
     test_compare();

@@ -18,7 +18,7 @@ impl Situation {
         requires { ⌜ valuation < 64 ⌝ }
         ensures { λ r. ⌜ r .set ≡ insert valuation emptySet ⌝ }
     {
-        Situation::EMPTY.with(valuation)
+        Situation::empty().with(valuation)
     }
 
     pub fn empty() -> Situation

@@ -1,12 +1,13 @@
 //! Changes the believed definitions by rule, one place at a time (mutation testing), and tries whether the crate refuses each change.
 //!
-//!     mutation [--list | --cases | --known] [--jobs N] [--fresh] [--write] [FILE..]
+//!     mutation [--list | --cases | --known] [--jobs N] [--fresh] [--write] [--since COMMIT] [FILE..]
 //!
 //! FILE is a path below `crates/`, as `definitions/specs/Policy.antt`; without one, every file of definitions that a promise rests on is
 //! taken, as `tools/believe --files` lists them. Outcomes are kept in `results.tsv` beside this program, so that a run goes on where the
 //! last one broke off: a change that was refused is tried again only if its definition is another one. `--fresh` forgets everything.
 //! `--list` shows the changes and tries none, `--cases` tries them against the tables of cases alone and shows what these let pass,
-//! `--known` tries none and tells what is known.
+//! `--known` tries none and tells what is known. `--since` takes those changes only that could not be made at a commit of the repository:
+//! those of definitions that were added or are other ones now.
 //! `--write` puts the tables into docs/WRONG-PROGRAMS.md. Survivors that change nothing stand in `equivalent.txt` with the reason. Exit
 //! status 1 if another one survives.
 
@@ -16,7 +17,7 @@ mod rules;
 mod side_by_side;
 mod trial;
 
-use std::collections::BTreeMap;
+use std::collections::{BTreeMap, BTreeSet};
 use std::fs;
 use std::path::{Path, PathBuf};
 use std::process::{Command, ExitCode};
@@ -31,6 +32,7 @@ struct Options {
     known: bool,
     fresh: bool,
     write: bool,
+    since: Option<String>,
     jobs: usize,
     files: Vec<String>,
 }
@@ -42,6 +44,7 @@ fn options() -> Option<Options> {
         known: false,
         fresh: false,
         write: false,
+        since: None,
         jobs: 2,
         files: Vec::new(),
     };
@@ -53,6 +56,7 @@ fn options() -> Option<Options> {
             "--known" => chosen.known = true,
             "--fresh" => chosen.fresh = true,
             "--write" => chosen.write = true,
+            "--since" => chosen.since = Some(words.next()?),
             "--jobs" => chosen.jobs = words.next()?.parse().ok().filter(|&n| n > 0)?,
             _ if word.starts_with('-') => return None,
             _ => chosen
@@ -85,6 +89,24 @@ fn believed(root: &Path) -> Vec<String> {
         .filter(|path| path.contains("/specs/") && path.ends_with(".antt"))
         .map(str::to_string)
         .collect()
+}
+
+/// The changes of a file as it stood at a commit; none where it was not there.
+fn changes_at(root: &Path, commit: &str, path: &str, names: &Declared) -> BTreeSet<String> {
+    let shown = Command::new("git")
+        .arg("-C")
+        .arg(root)
+        .args(["show", &format!("{commit}:crates/{path}")])
+        .output()
+        .expect("git");
+    let file = File::read(String::from_utf8(shown.stdout).expect("text"));
+    let mutants = rules::mutants(&file, names);
+    mutants.iter().map(|mutant| named(&file, mutant)).collect()
+}
+
+/// A change with the name of its definition.
+fn named(file: &File, mutant: &Mutant) -> String {
+    format!("{}: {}", mutant.definition, rules::shown(file, mutant))
 }
 
 /// Every name that a file of definitions declares, with its type.
@@ -127,7 +149,7 @@ fn antt_files(folder: &Path, found: &mut Vec<PathBuf>) {
 fn main() -> ExitCode {
     let Some(chosen) = options() else {
         eprintln!(
-            "usage: mutation [--list | --cases | --known] [--jobs N] [--fresh] [--write] [FILE..]"
+            "usage: mutation [--list | --cases | --known] [--jobs N] [--fresh] [--write] [--since COMMIT] [FILE..]"
         );
         return ExitCode::from(2);
     };
@@ -144,7 +166,11 @@ fn main() -> ExitCode {
             fs::read_to_string(root.join("crates").join(path))
                 .unwrap_or_else(|e| panic!("{path}: {e}")),
         );
-        let mutants = rules::mutants(&file, &names);
+        let mut mutants = rules::mutants(&file, &names);
+        if let Some(commit) = &chosen.since {
+            let before = changes_at(&root, commit, path, &names);
+            mutants.retain(|mutant| !before.contains(&named(&file, mutant)));
+        }
         files.insert(path.clone(), (file, mutants));
     }
     let trials: Vec<Trial> = files
@@ -157,12 +183,7 @@ fn main() -> ExitCode {
         .collect();
     if chosen.list {
         for t in &trials {
-            println!(
-                "{} {}: {}",
-                t.path,
-                t.mutant.definition,
-                rules::shown(t.file, t.mutant)
-            );
+            println!("{} {}", t.path, named(t.file, t.mutant));
         }
         println!("{} changes", trials.len());
         return ExitCode::SUCCESS;
