@@ -74,14 +74,38 @@ fn lent(random: &mut Random, least: usize) -> Vec<u8> {
         .collect()
 }
 
-fn builds(count: u64, seed: u64) -> Tally {
-    let mut tally = Tally::default();
+/// The kinds of policies, good and damaged, of version 1 and of version 2. Build gets as many of each.
+const POLICIES: [&str; 4] = [
+    "policy",
+    "damaged-policy",
+    "starting-policy",
+    "damaged-starting-policy",
+];
+
+/// Build, with how many books of version 2 it gave.
+#[derive(Default)]
+struct Builds {
+    build: Tally,
+    version_2: u64,
+    /// How many of these have a starting value above 0.
+    started: u64,
+}
+
+impl Builds {
+    fn note_version(&mut self, policy: &[u8], answer: u64) {
+        if answer.is_multiple_of(256) && policy[4] == 2 {
+            let first = 9 + usize::from(policy[6]);
+            let starts = &policy[first..first + usize::from(policy[7])];
+            self.version_2 += 1;
+            self.started += u64::from(starts.iter().any(|&start| start > 0));
+        }
+    }
+}
+
+fn builds(count: u64, seed: u64) -> Builds {
+    let mut noted = Builds::default();
     for i in seed..seed + count {
-        let kind = if i % 3 == 2 {
-            "damaged-policy"
-        } else {
-            "policy"
-        };
+        let kind = POLICIES[(i % 4) as usize];
         let policy = generate::one(kind, i).expect("a kind that the generator has");
         let mut random = Random::new(i, "build's buffer");
         let mut given = lent(&mut random, 17_284);
@@ -90,13 +114,14 @@ fn builds(count: u64, seed: u64) -> Tally {
             library::build(&policy, &mut given),
             expected::build(&policy, &mut wanted),
         );
-        tally.note(
+        noted.note_version(&policy, answers.1);
+        noted.build.note(
             (answers.0, given),
             (answers.1, wanted),
             &format!("generate {kind} {i}"),
         );
     }
-    tally
+    noted
 }
 
 /// The book of the policy of a seed, or a foreign or damaged book.
@@ -172,14 +197,18 @@ fn of_books(count: u64, seed: u64) -> OfBooks {
     noted
 }
 
-/// Two books: of two related policies, foreign ones of one frame, ones that differ as late as they can, or faulty ones.
+/// Two books: of two related policies, of either version, foreign ones of one frame, ones that differ as late as they can, or faulty ones.
 fn some_pair(i: u64) -> (&'static str, Vec<u8>, Vec<u8>) {
     match i % 8 {
         0 | 1 => {
             let (first, second) = generate::policy_pair(i);
             ("the books of policy-pair", built(&first), built(&second))
         }
-        2..=4 => pair("pair", generate::book_pair(i)),
+        2 => {
+            let (first, second) = generate::starting_pair(i);
+            ("the books of starting-pair", built(&first), built(&second))
+        }
+        3 | 4 => pair("pair", generate::book_pair(i)),
         5 => pair("longest-pair", generate::longest_pair(i)),
         6 => pair("faulty-pair", generate::faulty_pair(i)),
         _ => {
@@ -224,11 +253,11 @@ fn main() -> ExitCode {
         return ExitCode::from(2);
     };
     println!("seeds {seed} to {}", seed + count - 1);
-    let build = builds(count, seed);
+    let builds = builds(count, seed);
     let of_books = of_books(count, seed);
     let compare = compares(count, seed);
     let tallies = [
-        ("build", &build),
+        ("build", &builds.build),
         ("verdict", &of_books.verdict),
         ("compare", &compare),
         ("page", &of_books.page),
@@ -236,6 +265,10 @@ fn main() -> ExitCode {
     for (call, tally) in &tallies {
         tally.print(call);
     }
+    println!(
+        "books of version 2: {}; with a starting value above 0: {}",
+        builds.version_2, builds.started
+    );
     println!("longest difference: {} codes", compare.greatest);
     println!(
         "longest page: {} bytes; pages of 127 states and 64 requests: {}; with a state that no history leads to: {}",

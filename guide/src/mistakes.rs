@@ -53,8 +53,8 @@ struct Method<'a> {
 
 /// All situations reached, breadth first with the codes ascending.
 fn explore(method: &Method) -> Table {
-    let mut situations = vec![start()];
-    let mut places = BTreeMap::from([(start(), 0)]);
+    let mut situations = vec![start(method.policy)];
+    let mut places = BTreeMap::from([(situations[0].clone(), 0)]);
     let mut table = Table::new();
     while table.len() < situations.len() {
         let here = situations[table.len()].clone();

@@ -1,7 +1,7 @@
 //! Policies written as tables of rules: making them, and printing them as Markdown.
 
 use reference::frame::Frame;
-use reference::policy::{Change, Policy, Rule, Test};
+use reference::policy::{Change, Policy, Rule, Test, Version};
 use reference::words::Names;
 
 /// A policy of one field, with names for its events, requests and variables.
@@ -76,11 +76,13 @@ pub fn table(
         requests: requests.to_vec(),
         variables: variables.to_vec(),
         policy: Policy {
+            version: Version::One,
             frame: Frame {
                 events: events.len(),
                 counts: vec![requests.len()],
             },
             variables: variables.len(),
+            starts: vec![0; variables.len()],
             rules,
             events: vec![vec![at_event; variables.len()]; events.len()],
         },

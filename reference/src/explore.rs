@@ -32,7 +32,7 @@ pub fn explore(policy: &Policy) -> Result<Exploration, Refusal> {
     let twins = twins(&effects);
     let mut search = Search::default();
     let mut table = Table::new();
-    search.place_of(start())?;
+    search.place_of(start(policy))?;
     while table.len() < search.situations.len() {
         let here = search.situations[table.len()].clone();
         let mut row: Vec<Option<usize>> = Vec::new();

@@ -9,6 +9,8 @@ mod policies;
 mod policy_damage;
 mod random;
 mod shape;
+mod start_damage;
+mod starts;
 mod variation;
 
 pub use book_damage::{damaged_book, faulty_pair};
@@ -18,10 +20,12 @@ pub use plays::play;
 pub use policies::policy;
 pub use policy_damage::damaged_policy;
 pub use random::Random;
+pub use start_damage::damaged_starting_policy;
+pub use starts::{starting_pair, starting_policy};
 pub use variation::policy_pair;
 
 /// The names of the kinds that `one` knows.
-pub const KINDS: [&str; 14] = [
+pub const KINDS: [&str; 18] = [
     "policy",
     "policy-pair-first",
     "policy-pair-second",
@@ -36,6 +40,10 @@ pub const KINDS: [&str; 14] = [
     "faulty-pair-first",
     "faulty-pair-second",
     "play",
+    "starting-policy",
+    "damaged-starting-policy",
+    "starting-pair-first",
+    "starting-pair-second",
 ];
 
 /// The input of a kind named in `KINDS` for a seed, nothing for another name.
@@ -55,6 +63,10 @@ pub fn one(kind: &str, seed: u64) -> Option<Vec<u8>> {
         "faulty-pair-first" => faulty_pair(seed).0,
         "faulty-pair-second" => faulty_pair(seed).1,
         "play" => play(seed),
+        "starting-policy" => starting_policy(seed),
+        "damaged-starting-policy" => damaged_starting_policy(seed),
+        "starting-pair-first" => starting_pair(seed).0,
+        "starting-pair-second" => starting_pair(seed).1,
         _ => return None,
     })
 }

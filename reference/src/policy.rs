@@ -1,5 +1,5 @@
-//! Reading a policy file into decoded rules, with refusals 2 to 10, and
-//! writing decoded rules back into bytes.
+//! Reading a policy file of either version into decoded rules, with refusals 2
+//! to 10 and 17, and writing decoded rules back into bytes.
 
 use crate::frame::{counts_are_legal, Frame, MOST_EVENTS, MOST_FIELDS};
 use crate::refusal::Refusal;
@@ -11,12 +11,32 @@ pub const MOST_VARIABLES: usize = 4;
 pub const MOST_RULES: usize = 32;
 /// The greatest number in a test.
 pub const MOST_TEST: u8 = 63;
+/// The greatest starting value.
+pub const MOST_START: u8 = 63;
 /// The greatest number of valuations.
 pub const MOST_VALUATIONS: usize = 64;
 
 const MARK: &[u8] = b"POL";
-const VERSION: [u8; 2] = [0, 1];
 const HEADER_LENGTH: usize = 9;
+
+/// The version of a policy file.
+#[derive(Clone, Copy, Debug, PartialEq, Eq)]
+pub enum Version {
+    /// The file says nothing of starting values: all of them are 0.
+    One,
+    /// The file has a starting value for each variable, after the value counts.
+    Two,
+}
+
+impl Version {
+    /// The two bytes in the header.
+    fn bytes(self) -> [u8; 2] {
+        match self {
+            Version::One => [0, 1],
+            Version::Two => [0, 2],
+        }
+    }
+}
 
 /// What a rule or an event does to one variable.
 #[derive(Clone, Copy, Debug, PartialEq, Eq)]
@@ -56,31 +76,53 @@ pub struct Rule {
 /// A decoded policy.
 #[derive(Clone, Debug, PartialEq, Eq)]
 pub struct Policy {
+    /// The version of the file.
+    pub version: Version,
     /// The frame.
     pub frame: Frame,
     /// The number of variables, P.
     pub variables: usize,
+    /// For each variable, its starting value as the file gives it, maybe above
+    /// the bound; 0 in version 1.
+    pub starts: Vec<u8>,
     /// The rules in the order of the file.
     pub rules: Vec<Rule>,
     /// For each event, the change of each variable.
     pub events: Vec<Vec<Change>>,
 }
 
-/// The four sizes that stand in the header.
-struct Sizes {
+/// The version and the four sizes that stand in the header.
+struct Header {
+    version: Version,
     events: usize,
     fields: usize,
     variables: usize,
     rules: usize,
 }
 
-impl Sizes {
+impl Header {
+    /// The number of starting values that the file has.
+    fn starts(&self) -> usize {
+        match self.version {
+            Version::One => 0,
+            Version::Two => self.variables,
+        }
+    }
+
     fn rule_length(&self) -> usize {
         2 * self.fields + 2 + 3 * self.variables
     }
 
+    fn rules_length(&self) -> usize {
+        self.rules * self.rule_length()
+    }
+
     fn file_length(&self) -> usize {
-        HEADER_LENGTH + self.fields + self.rules * self.rule_length() + self.events * self.variables
+        HEADER_LENGTH
+            + self.fields
+            + self.starts()
+            + self.rules_length()
+            + self.events * self.variables
     }
 }
 
@@ -92,29 +134,34 @@ struct RuleBytes {
     variables: Vec<[u8; 3]>,
 }
 
-/// Reads a policy file, or gives the lowest of the numbers 2 to 10 that fits.
+/// Reads a policy file, or gives the first number that fits of 2, 3, 4, 5, 6,
+/// 7, 17, 8, 9 and 10, which are judged in this order.
 pub fn read(bytes: &[u8]) -> Result<Policy, Refusal> {
-    let sizes = read_sizes(bytes)?;
-    if bytes.len() != sizes.file_length() {
+    let header = read_header(bytes)?;
+    if bytes.len() != header.file_length() {
         return Err(Refusal::PolicyLength);
     }
-    let counts = read_counts(&bytes[HEADER_LENGTH..HEADER_LENGTH + sizes.fields])?;
-    let table = &bytes[HEADER_LENGTH + sizes.fields..];
-    let (rule_table, event_table) = table.split_at(sizes.rules * sizes.rule_length());
+    let (count_bytes, rest) = bytes[HEADER_LENGTH..].split_at(header.fields);
+    let (start_bytes, table) = rest.split_at(header.starts());
+    let (rule_table, event_table) = table.split_at(header.rules_length());
+    let counts = read_counts(count_bytes)?;
+    let starts = read_starts(start_bytes, &header)?;
     let rules: Vec<RuleBytes> = rule_table
-        .chunks(sizes.rule_length())
-        .map(|record| take_apart(record, sizes.fields))
+        .chunks(header.rule_length())
+        .map(|record| take_apart(record, header.fields))
         .collect();
     check_masks(&rules, &counts)?;
     let policy = Policy {
+        version: header.version,
         frame: Frame {
-            events: sizes.events,
+            events: header.events,
             counts,
         },
-        variables: sizes.variables,
+        variables: header.variables,
+        starts,
         rules: rules.iter().map(decode_rule).collect::<Result<_, _>>()?,
-        events: (0..sizes.events)
-            .map(|event| &event_table[event * sizes.variables..(event + 1) * sizes.variables])
+        events: (0..header.events)
+            .map(|event| &event_table[event * header.variables..(event + 1) * header.variables])
             .map(decode_changes)
             .collect::<Result<_, _>>()?,
     };
@@ -125,31 +172,37 @@ pub fn read(bytes: &[u8]) -> Result<Policy, Refusal> {
 }
 
 /// Numbers 2 to 5.
-fn read_sizes(bytes: &[u8]) -> Result<Sizes, Refusal> {
+fn read_header(bytes: &[u8]) -> Result<Header, Refusal> {
     if bytes.len() < HEADER_LENGTH {
         return Err(Refusal::PolicyShort);
     }
     if bytes[..3] != *MARK {
         return Err(Refusal::PolicyMark);
     }
-    if bytes[3..5] != VERSION {
-        return Err(Refusal::PolicyVersion);
-    }
-    let sizes = Sizes {
+    let header = Header {
+        version: read_version(&bytes[3..5])?,
         events: bytes[5] as usize,
         fields: bytes[6] as usize,
         variables: bytes[7] as usize,
         rules: bytes[8] as usize,
     };
-    let legal = sizes.events <= MOST_EVENTS
-        && (1..=MOST_FIELDS).contains(&sizes.fields)
-        && sizes.variables <= MOST_VARIABLES
-        && (1..=MOST_RULES).contains(&sizes.rules);
+    let legal = header.events <= MOST_EVENTS
+        && (1..=MOST_FIELDS).contains(&header.fields)
+        && header.variables <= MOST_VARIABLES
+        && (1..=MOST_RULES).contains(&header.rules);
     if legal {
-        Ok(sizes)
+        Ok(header)
     } else {
         Err(Refusal::PolicySizes)
     }
+}
+
+/// Number 4.
+fn read_version(bytes: &[u8]) -> Result<Version, Refusal> {
+    [Version::One, Version::Two]
+        .into_iter()
+        .find(|version| version.bytes() == bytes)
+        .ok_or(Refusal::PolicyVersion)
 }
 
 /// Number 7.
@@ -160,6 +213,17 @@ fn read_counts(bytes: &[u8]) -> Result<Vec<usize>, Refusal> {
     } else {
         Err(Refusal::PolicyCounts)
     }
+}
+
+/// Number 17. Version 1 reads as all zeros.
+fn read_starts(bytes: &[u8], header: &Header) -> Result<Vec<u8>, Refusal> {
+    if bytes.iter().any(|&start| start > MOST_START) {
+        return Err(Refusal::PolicyStart);
+    }
+    Ok(match header.version {
+        Version::One => vec![0; header.variables],
+        Version::Two => bytes.to_vec(),
+    })
 }
 
 fn take_apart(record: &[u8], fields: usize) -> RuleBytes {
@@ -234,15 +298,19 @@ fn decode_changes(bytes: &[u8]) -> Result<Vec<Change>, Refusal> {
         .collect()
 }
 
-/// Writes a decoded policy as a policy file.
+/// Writes a decoded policy as a policy file of its version. Version 1 has no
+/// place for the starting values.
 pub fn write(policy: &Policy) -> Vec<u8> {
     let mut bytes = MARK.to_vec();
-    bytes.extend(VERSION);
+    bytes.extend(policy.version.bytes());
     bytes.push(policy.frame.events as u8);
     bytes.push(policy.frame.counts.len() as u8);
     bytes.push(policy.variables as u8);
     bytes.push(policy.rules.len() as u8);
     bytes.extend(policy.frame.counts.iter().map(|&count| count as u8));
+    if policy.version == Version::Two {
+        bytes.extend(&policy.starts);
+    }
     for rule in &policy.rules {
         write_rule(rule, &mut bytes);
     }

@@ -56,12 +56,15 @@ fn record(policy: &[u8]) -> Vec<u8> {
 }
 
 /// The policies of the table of cases, the examples of the table of refusals,
-/// and generated ones.
+/// and generated ones; then those with starting values.
 pub fn policies() -> Vec<Vec<u8>> {
     let mut policies: Vec<Vec<u8>> = TABLE.iter().map(|policy| policy.to_vec()).collect();
     policies.extend(EXAMPLES.iter().map(|text| bytes(text)));
     policies.extend(first_small(generate::policy, 36));
     policies.extend(first_small(generate::damaged_policy, 36));
+    policies.extend(STARTING.iter().map(|text| bytes(text)));
+    policies.extend(first_small(generate::starting_policy, 18));
+    policies.extend(first_small(generate::damaged_starting_policy, 18));
     policies
 }
 
@@ -117,4 +120,35 @@ const EXAMPLES: [&str; 14] = [
     "50 4F 4C 00 01 08 02 01 05 08 08 | 00 01 00 FF 01 00 00 00 01 \
      | 00 FE 00 FF 01 00 00 01 00 | 00 FE 00 FF 01 00 00 01 01 \
      | 00 01 00 FF 00 00 3E 3F 00 | 00 FE 00 FF 00 00 3F 00 00 | 00 00 00 00 00 00 00 00",
+];
+
+/// Case A in version 2 with the starts 0, 1, 2, 63 and 64, with no start, with a
+/// bad count beside the bad start, and with a bad mask beside it; case A as
+/// version 3; two variables with the bounds 2 and 3 that start at 1 and 2; case S
+/// with 7 from 1 on; and no variables.
+const STARTING: [&str; 12] = [
+    "50 4F 4C 00 02 01 01 01 03 02 | 00 | 00 01 01 00 00 00 00 | 00 02 01 00 00 02 01 \
+     | 00 02 00 00 02 00 00 | 02",
+    "50 4F 4C 00 02 01 01 01 03 02 | 01 | 00 01 01 00 00 00 00 | 00 02 01 00 00 02 01 \
+     | 00 02 00 00 02 00 00 | 02",
+    "50 4F 4C 00 02 01 01 01 03 02 | 02 | 00 01 01 00 00 00 00 | 00 02 01 00 00 02 01 \
+     | 00 02 00 00 02 00 00 | 02",
+    "50 4F 4C 00 02 01 01 01 03 02 | 3F | 00 01 01 00 00 00 00 | 00 02 01 00 00 02 01 \
+     | 00 02 00 00 02 00 00 | 02",
+    "50 4F 4C 00 02 01 01 01 03 02 | 40 | 00 01 01 00 00 00 00 | 00 02 01 00 00 02 01 \
+     | 00 02 00 00 02 00 00 | 02",
+    "50 4F 4C 00 02 01 01 01 03 02 | 00 01 01 00 00 00 00 | 00 02 01 00 00 02 01 \
+     | 00 02 00 00 02 00 00 | 02",
+    "50 4F 4C 00 02 01 01 01 03 11 | 40 | 00 01 01 00 00 00 00 | 00 02 01 00 00 02 01 \
+     | 00 02 00 00 02 00 00 | 02",
+    "50 4F 4C 00 02 01 01 01 03 02 | 40 | 00 04 01 00 00 00 00 | 00 02 01 00 00 02 01 \
+     | 00 02 00 00 02 00 00 | 02",
+    "50 4F 4C 00 03 01 01 01 03 02 | 00 | 00 01 01 00 00 00 00 | 00 02 01 00 00 02 01 \
+     | 00 02 00 00 02 00 00 | 02",
+    "50 4F 4C 00 02 01 01 02 04 02 | 01 02 | 00 01 01 00 00 02 01 00 00 00 \
+     | 00 01 00 00 02 00 00 00 00 00 | 00 02 01 00 00 00 00 00 03 01 \
+     | 00 02 00 00 00 00 00 03 00 00 | 02 00",
+    "50 4F 4C 00 02 00 01 01 03 02 | 01 | 00 03 01 00 00 01 00 | 00 01 01 00 00 01 01 \
+     | 00 03 01 00 01 07 01",
+    "50 4F 4C 00 02 00 02 00 01 08 08 | 00 01 00 01 01 00",
 ];

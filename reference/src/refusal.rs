@@ -1,4 +1,5 @@
-//! The numbers of the table "Where input is turned down" and their meanings.
+//! The numbers of the table "Where input is turned down", with those that later
+//! requests added, and their meanings.
 
 /// Why an input is turned down. The discriminant is the number of the row.
 #[derive(Clone, Copy, Debug, PartialEq, Eq, PartialOrd, Ord, Hash)]
@@ -10,7 +11,7 @@ pub enum Refusal {
     PolicyShort = 2,
     /// The policy does not begin with `POL`.
     PolicyMark = 3,
-    /// The policy's version is not 1.
+    /// The policy's version is neither 1 nor 2.
     PolicyVersion = 4,
     /// E, F, P or R is outside its range.
     PolicySizes = 5,
@@ -37,11 +38,13 @@ pub enum Refusal {
     /// The opened book's state, the request or the code is outside its range,
     /// or the step is not possible.
     Walk = 16,
+    /// A starting value is above 63; judged after 7 and before 8.
+    PolicyStart = 17,
 }
 
 impl Refusal {
     /// Every refusal, in the order of the numbers.
-    pub const ALL: [Refusal; 16] = [
+    pub const ALL: [Refusal; 17] = [
         Refusal::Buffer,
         Refusal::PolicyShort,
         Refusal::PolicyMark,
@@ -58,6 +61,7 @@ impl Refusal {
         Refusal::BookEntry,
         Refusal::Frames,
         Refusal::Walk,
+        Refusal::PolicyStart,
     ];
 
     /// The number of the row.
@@ -71,7 +75,7 @@ impl Refusal {
             Refusal::Buffer => "a lent buffer is too small",
             Refusal::PolicyShort => "the policy has fewer than 9 bytes",
             Refusal::PolicyMark => "the policy does not begin with the mark POL",
-            Refusal::PolicyVersion => "the policy's version is not 1",
+            Refusal::PolicyVersion => "the policy's version is neither 1 nor 2",
             Refusal::PolicySizes => {
                 "the number of events, fields, variables or rules is outside its range"
             }
@@ -92,6 +96,7 @@ impl Refusal {
             Refusal::Walk => {
                 "the state, request or code is outside its range, or the step is not possible"
             }
+            Refusal::PolicyStart => "a starting value is above 63",
         }
     }
 }

@@ -24,9 +24,15 @@ pub enum Step {
     },
 }
 
-/// The situation before any step: every variable is 0.
-pub fn start() -> Situation {
-    Situation::from([[0; MOST_VARIABLES]])
+/// The situation before any step: each variable has its starting value. A start
+/// above the variable's bound counts as the bound.
+pub fn start(policy: &Policy) -> Situation {
+    let bounds = bounds(policy);
+    let mut valuation = [0; MOST_VARIABLES];
+    for (variable, &start) in policy.starts.iter().enumerate() {
+        valuation[variable] = start.min(bounds[variable]);
+    }
+    Situation::from([valuation])
 }
 
 /// For each variable the greatest number any rule tests it with, 0 if none.

@@ -65,6 +65,13 @@ fn refusals_are_answers_and_are_explained() {
         explained,
         "refused by number 11: over 127 situations are reached\n"
     );
+    let output = run(&["shelf", "-"], &with_starts(&policy_a(), &[64]));
+    assert_eq!(text(&output), ("refused 17\n", Some(0)));
+    let explained = String::from_utf8(output.stderr).unwrap();
+    assert_eq!(
+        explained,
+        "refused by number 17: a starting value is above 63\n"
+    );
     assert_eq!(text(&run(&["book", "-"], &[])), ("refused 2\n", Some(0)));
     assert_eq!(
         text(&run(&["verdict", "-"], &[])),
@@ -187,5 +194,9 @@ fn help_is_an_answer() {
         "book", "shelf", "compare", "verdict", "page", "build", "generate", "host", "dot", "help",
     ] {
         assert!(help.contains(&format!("reference {command}")));
+    }
+    let kinds = help.lines().last().expect("a line with the kinds");
+    for kind in reference::generate::KINDS {
+        assert!(kinds.split(' ').any(|word| word == kind), "{kind}");
     }
 }

@@ -11,7 +11,7 @@ use reference::explore::{explore, Exploration};
 use reference::findings::{findings, Findings, RequestFinding};
 use reference::frame::Frame;
 use reference::hex;
-use reference::policy::{self, Change, Policy, Rule, Test};
+use reference::policy::{self, Change, Policy, Rule, Test, Version};
 use reference::situation::{Situation, Steps, Valuation};
 
 const IMAGE: u16 = 1;
@@ -41,11 +41,13 @@ fn rule(mask: u16, accepts: bool, at_least: u8, below: u8, change: Change) -> Ru
 
 fn policy(types: usize, rules: Vec<Rule>, events: Vec<Change>) -> Policy {
     Policy {
+        version: Version::One,
         frame: Frame {
             events: events.len(),
             counts: vec![types],
         },
         variables: 1,
+        starts: vec![0],
         rules,
         events: events.into_iter().map(|change| vec![change]).collect(),
     }

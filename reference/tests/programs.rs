@@ -7,7 +7,7 @@ use std::fs;
 use std::path::PathBuf;
 use std::process::Command;
 
-use common::{policy_a, policy_e, policy_e_level_1, policy_s};
+use common::{policy_a, policy_e, policy_e_level_1, policy_s, policy_two_counters, with_starts};
 use reference::book;
 use reference::programs::{case_line, policies, runs};
 
@@ -19,7 +19,9 @@ fn number(policy: &[u8]) -> u8 {
 #[test]
 fn every_number_is_met() {
     let met: BTreeSet<u8> = policies().iter().map(|policy| number(policy)).collect();
-    assert!(met.into_iter().eq([0].into_iter().chain(2..=11)));
+    assert!(met
+        .into_iter()
+        .eq([0].into_iter().chain(2..=11).chain([17])));
 }
 
 #[test]
@@ -32,6 +34,22 @@ fn the_examples_are_those_of_the_table() {
     for policy in [policy_a(), policy_e(), policy_e_level_1(), policy_s(6)] {
         assert!(policies().contains(&policy));
     }
+}
+
+#[test]
+fn the_starting_values_are_among_them() {
+    let starting = &policies()[96..108];
+    let numbers: Vec<u8> = starting.iter().map(|policy| number(policy)).collect();
+    assert_eq!(numbers, [0, 0, 0, 0, 17, 6, 7, 17, 4, 0, 0, 0]);
+    let from = |start| with_starts(&policy_a(), &[start]);
+    assert!(starting.iter().take(5).eq(&[0, 1, 2, 63, 64].map(from)));
+    assert_eq!(starting[9], policy_two_counters(1, 2));
+    assert_eq!(starting[10], with_starts(&policy_s(7), &[1]));
+    let versions: BTreeSet<u8> = policies()[108..126]
+        .iter()
+        .map(|policy| policy[4])
+        .collect();
+    assert!(versions.into_iter().eq([2]));
 }
 
 #[test]
@@ -59,6 +77,7 @@ fn cases_reads_each_policy_after_its_length() {
     for (policy, line) in policies().iter().zip(run.stdout.lines()) {
         let (length, after) = rest.split_at(2);
         let length = usize::from(u16::from_be_bytes([length[0], length[1]]));
+        assert!(length <= 1_024);
         assert_eq!(&after[..length], policy);
         assert_eq!(format!("{line}\n"), case_line(policy));
         rest = &after[length..];

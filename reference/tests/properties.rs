@@ -12,12 +12,17 @@ use plain::PlainPolicy;
 use reference::book::{self, build, Book, MOST_LENGTH};
 use reference::explore::explore;
 use reference::generate::{self, Random};
+use reference::policy::Version;
 use reference::{policy, situation};
 
-/// Accepted policies and their books.
+/// Policies of version 1 and of version 2, one of each for a seed.
+fn policies(seeds: std::ops::Range<u64>) -> impl Iterator<Item = Vec<u8>> {
+    seeds.flat_map(|seed| [generate::policy(seed), generate::starting_policy(seed)])
+}
+
+/// Accepted policies of both versions and their books.
 fn built(seeds: std::ops::Range<u64>) -> impl Iterator<Item = (Vec<u8>, Book)> {
-    seeds.filter_map(|seed| {
-        let policy = generate::policy(seed);
+    policies(seeds).filter_map(|policy| {
         let book = build(&policy).ok()?;
         Some((policy, book))
     })
@@ -25,10 +30,11 @@ fn built(seeds: std::ops::Range<u64>) -> impl Iterator<Item = (Vec<u8>, Book)> {
 
 #[test]
 fn most_policies_are_accepted_and_written_as_they_were_read() {
-    let mut accepted = 0;
-    for seed in 0..300 {
-        let bytes = generate::policy(seed);
+    let mut accepted = [0; 2];
+    for (place, bytes) in policies(0..300).enumerate() {
         let decoded = policy::read(&bytes).expect("only number 11 occurs");
+        let version = [Version::One, Version::Two][place % 2];
+        assert_eq!(decoded.version, version);
         assert_eq!(policy::write(&decoded), bytes);
         let valuations = situation::all_valuations(&decoded);
         assert_eq!(valuations.len(), situation::count_valuations(&decoded));
@@ -36,9 +42,9 @@ fn most_policies_are_accepted_and_written_as_they_were_read() {
             valuations.iter().collect::<BTreeSet<_>>().len(),
             valuations.len()
         );
-        accepted += usize::from(build(&bytes).is_ok());
+        accepted[place % 2] += usize::from(build(&bytes).is_ok());
     }
-    assert!(accepted > 270, "{accepted}");
+    assert!(accepted.iter().all(|&count| count > 270), "{accepted:?}");
 }
 
 #[test]
@@ -222,7 +228,7 @@ fn generated_books_pass_the_checks() {
 }
 
 /// For each kind of input, a sum over the bytes for the first 40 seeds.
-const SUMS: [(&str, u64); 14] = [
+const SUMS: [(&str, u64); 18] = [
     ("policy", 0xDA23_5E0E_3629_2C1D),
     ("policy-pair-first", 0x3480_96C1_D3A2_B227),
     ("policy-pair-second", 0xCE55_9955_F26C_296D),
@@ -237,6 +243,10 @@ const SUMS: [(&str, u64); 14] = [
     ("faulty-pair-first", 0x9047_7D5D_CE04_3905),
     ("faulty-pair-second", 0xDD60_13CD_9187_4690),
     ("play", 0x90D5_AC63_5632_89B0),
+    ("starting-policy", 0xE630_694D_402D_53BD),
+    ("damaged-starting-policy", 0x9BE1_E041_1D4D_35CA),
+    ("starting-pair-first", 0x61F8_F5D0_3FCF_954D),
+    ("starting-pair-second", 0x76AC_0950_CF35_C839),
 ];
 
 /// The bytes that the generators give for a seed are the same forever.

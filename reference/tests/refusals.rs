@@ -35,7 +35,7 @@ fn numbers_are_the_rows_of_the_table() {
         .iter()
         .map(|refusal| refusal.number())
         .collect();
-    assert!(all.into_iter().eq(1..=16));
+    assert!(all.into_iter().eq(1..=17));
 }
 
 #[test]
@@ -43,6 +43,13 @@ fn damaged_policies_meet_2_to_11() {
     let policies = (0..600).map(generate::damaged_policy);
     let met = numbers(policies.map(|policy| book::build(&policy).err()));
     assert!(met.into_iter().eq(2..=11));
+}
+
+#[test]
+fn damaged_starting_policies_meet_2_to_11_and_17() {
+    let policies = (0..600).map(generate::damaged_starting_policy);
+    let met = numbers(policies.map(|policy| book::build(&policy).err()));
+    assert!(met.into_iter().eq((2..=11).chain([17])));
 }
 
 #[test]
@@ -76,8 +83,13 @@ fn walks_meet_only_16() {
 
 #[test]
 fn build_keeps_the_rest_of_its_buffer() {
-    let policies =
-        (0..150).flat_map(|seed| [generate::policy(seed), generate::damaged_policy(seed)]);
+    let kinds = [
+        generate::policy,
+        generate::damaged_policy,
+        generate::starting_policy,
+        generate::damaged_starting_policy,
+    ];
+    let policies = (0..150).flat_map(|seed| kinds.map(|kind| kind(seed)));
     for (place, policy) in policies.enumerate() {
         let size = entry::BUILD_BUFFER + place % 3;
         let mut buffer = lent(size, place as u8);
@@ -96,8 +108,8 @@ fn build_keeps_the_rest_of_its_buffer() {
 
 #[test]
 fn the_book_does_not_depend_on_the_buffer() {
-    for seed in 0..50 {
-        let policy = generate::policy(seed);
+    let kinds = [generate::policy, generate::starting_policy];
+    for policy in (0..50).flat_map(|seed| kinds.map(|kind| kind(seed))) {
         let [mut first, mut second] = [3, 200].map(|mark| lent(entry::BUILD_BUFFER, mark));
         if let Ok(length) = entry::build(&policy, &mut first) {
             assert_eq!(entry::build(&policy, &mut second), Ok(length));

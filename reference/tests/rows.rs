@@ -53,8 +53,10 @@ fn rows_2_to_4() {
         assert_eq!(refused(&with_byte(&policy_a(), place, 0x58)), Some(3));
     }
     assert_eq!(refused(&with_byte(&policy_a(), 4, 0)), Some(4));
-    assert_eq!(refused(&with_byte(&policy_a(), 4, 2)), Some(4));
+    assert_eq!(refused(&with_byte(&policy_a(), 4, 3)), Some(4));
     assert_eq!(refused(&with_byte(&policy_a(), 3, 1)), Some(4));
+    // As a file of version 2 it is a byte short: it has no starting value.
+    assert_eq!(refused(&with_byte(&policy_a(), 4, 2)), Some(6));
 }
 
 #[test]

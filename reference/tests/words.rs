@@ -67,6 +67,9 @@ exit status 0
     assert!(told(&policy_a(), &policy_e()).contains("just one of them, two: request 1 accepted"));
     let same = "comparison: the same histories are possible under both\nexit status 0\n";
     assert!(told(&policy_a(), &policy_c()).ends_with(same));
+    assert!(told(&policy_a(), &with_starts(&policy_a(), &[0])).ends_with(same));
+    assert!(told(&policy_a(), &with_starts(&policy_a(), &[2]))
+        .ends_with("possible under just one of them, one: request 1 accepted\nexit status 0\n"));
 }
 
 #[test]
@@ -90,6 +93,15 @@ fn the_host_tells_refusals_and_unreadable_files() {
     let refused = told(&[], &policy_h());
     assert!(refused.starts_with("one: refused by number 2: the policy has fewer than 9 bytes\n"));
     assert!(refused.ends_with("exit status 1\n"));
+    let refused = told(
+        &with_byte(&policy_a(), 4, 3),
+        &with_starts(&policy_a(), &[64]),
+    );
+    assert_eq!(
+        refused,
+        "one: refused by number 4: the policy's version is neither 1 nor 2\n\
+         two: refused by number 17: a starting value is above 63\nexit status 1\n"
+    );
     let missing = |name| File {
         name,
         content: Err(std::io::Error::from_raw_os_error(2)),

@@ -1,4 +1,4 @@
-//! Policies that are usually accepted, of many shapes.
+//! Policies that are usually accepted, of many shapes, of version 1.
 
 use super::random::Random;
 use super::shape::{
@@ -15,8 +15,14 @@ pub fn policy(seed: u64) -> Vec<u8> {
 
 /// Draws a policy. Most of those with only one state are put aside.
 pub(super) fn draw(random: &mut Random) -> Policy {
+    draw_by(draw_any, random)
+}
+
+/// Draws a policy by a way to draw one. Most of those with only one state are
+/// put aside.
+pub(super) fn draw_by(draw_one: fn(&mut Random) -> Policy, random: &mut Random) -> Policy {
     for _ in 0..3 {
-        let policy = draw_any(random);
+        let policy = draw_one(random);
         let wanted = match build(&write(&policy)) {
             Ok(book) => book.states() > 1,
             Err(_) => random.chance(1, 2),
@@ -25,11 +31,11 @@ pub(super) fn draw(random: &mut Random) -> Policy {
             return policy;
         }
     }
-    draw_any(random)
+    draw_one(random)
 }
 
 /// Draws one policy of one of the shapes.
-fn draw_any(random: &mut Random) -> Policy {
+pub(super) fn draw_any(random: &mut Random) -> Policy {
     match random.below(20) {
         0..=4 => from_shape(&mixed(random), random),
         5 | 6 => from_shape(&small(random), random),

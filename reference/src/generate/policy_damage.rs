@@ -1,15 +1,19 @@
 //! Policy files with something wrong in them, so that each of the numbers 2 to
 //! 11 occurs. Now and then a file stays legal.
 
+use std::ops::Range;
+
 use super::policies::{draw, spreading};
 use super::random::Random;
 use crate::frame::{MOST_EVENTS, MOST_FIELDS};
-use crate::policy::{write, Change, Policy, Test, MOST_RULES, MOST_VARIABLES};
+use crate::policy::{write, Change, Policy, Test, Version, MOST_RULES, MOST_VARIABLES};
 
 /// Where the parts of a legal policy file stand.
-struct Places {
+pub(super) struct Places {
     fields: usize,
     variables: usize,
+    /// The starting values, none in version 1.
+    pub(super) starts: Range<usize>,
     rules: usize,
     first_rule: usize,
     rule_length: usize,
@@ -17,13 +21,17 @@ struct Places {
 }
 
 impl Places {
-    fn of(policy: &Policy) -> Places {
+    pub(super) fn of(policy: &Policy) -> Places {
         let fields = policy.frame.counts.len();
         let rule_length = 2 * fields + 2 + 3 * policy.variables;
-        let first_rule = 9 + fields;
+        let first_rule = match policy.version {
+            Version::One => 9 + fields,
+            Version::Two => 9 + fields + policy.variables,
+        };
         Places {
             fields,
             variables: policy.variables,
+            starts: 9 + fields..first_rule,
             rules: policy.rules.len(),
             first_rule,
             rule_length,
@@ -53,23 +61,27 @@ pub fn damaged_policy(seed: u64) -> Vec<u8> {
         2 => return write(&spreading(random.between(7, 12) as u8, &mut random)),
         _ => {}
     }
-    let policy = draw(&mut random);
-    let places = Places::of(&policy);
-    let mut bytes = write(&policy);
+    damaged(&draw(&mut random), &mut random)
+}
+
+/// The file of a policy with one to three faults.
+pub(super) fn damaged(policy: &Policy, random: &mut Random) -> Vec<u8> {
+    let places = Places::of(policy);
+    let mut bytes = write(policy);
     let times = *random.pick(&[1, 1, 1, 2, 3]);
     // Faults that keep the length come first, so that all places still exist.
     for _ in 1..times {
-        damage_inside(&mut bytes, &places, &mut random);
+        damage_inside(&mut bytes, &places, random);
     }
     if random.chance(3, 4) {
-        damage_inside(&mut bytes, &places, &mut random);
+        damage_inside(&mut bytes, &places, random);
     } else {
-        damage_length(&mut bytes, &mut random);
+        damage_length(&mut bytes, random);
     }
     bytes
 }
 
-fn damage_length(bytes: &mut Vec<u8>, random: &mut Random) {
+pub(super) fn damage_length(bytes: &mut Vec<u8>, random: &mut Random) {
     match random.below(5) {
         0 => bytes.truncate(random.below(9)),
         1 => bytes.truncate(random.between(9, bytes.len())),
@@ -108,7 +120,7 @@ fn damage_sizes(bytes: &mut [u8], random: &mut Random) {
 }
 
 /// A count just outside its range, or counts whose product may be too great.
-fn damage_counts(bytes: &mut [u8], places: &Places, random: &mut Random) {
+pub(super) fn damage_counts(bytes: &mut [u8], places: &Places, random: &mut Random) {
     let counts = &mut bytes[9..9 + places.fields];
     if random.chance(1, 2) {
         counts[random.below(places.fields)] = *random.pick(&[0, 17, 255]);
@@ -118,7 +130,7 @@ fn damage_counts(bytes: &mut [u8], places: &Places, random: &mut Random) {
 }
 
 /// An empty mask, or one with a bit that may be too high.
-fn damage_mask(bytes: &mut [u8], places: &Places, random: &mut Random) {
+pub(super) fn damage_mask(bytes: &mut [u8], places: &Places, random: &mut Random) {
     let field = random.below(places.fields);
     let count = bytes[9 + field].min(15);
     let place = places.some_rule(random) + 2 * field;
@@ -131,7 +143,7 @@ fn damage_mask(bytes: &mut [u8], places: &Places, random: &mut Random) {
 }
 
 /// A decision, test or change just outside its values, or any byte.
-fn damage_value(bytes: &mut [u8], places: &Places, random: &mut Random) {
+pub(super) fn damage_value(bytes: &mut [u8], places: &Places, random: &mut Random) {
     let rule = places.some_rule(random);
     let (place, outside) = if places.variables == 0 || random.chance(1, 5) {
         (places.decision(rule), 2)
@@ -149,7 +161,7 @@ fn damage_value(bytes: &mut [u8], places: &Places, random: &mut Random) {
 }
 
 /// Tests so great that there are usually over 64 valuations.
-fn with_many_valuations(mut policy: Policy, random: &mut Random) -> Policy {
+pub(super) fn with_many_valuations(mut policy: Policy, random: &mut Random) -> Policy {
     while policy.variables < 2 {
         add_variable(&mut policy);
     }
@@ -161,7 +173,7 @@ fn with_many_valuations(mut policy: Policy, random: &mut Random) -> Policy {
 }
 
 /// One of the four sizes just outside its range, while the length fits it.
-fn with_size_outside(mut policy: Policy, random: &mut Random) -> Policy {
+pub(super) fn with_size_outside(mut policy: Policy, random: &mut Random) -> Policy {
     match random.below(6) {
         0 => {
             let event = vec![Change::AddOne; policy.variables];
@@ -192,6 +204,7 @@ fn with_size_outside(mut policy: Policy, random: &mut Random) -> Policy {
 /// Adds a variable that no rule tests.
 fn add_variable(policy: &mut Policy) {
     policy.variables += 1;
+    policy.starts.push(0);
     for rule in &mut policy.rules {
         rule.tests.push(Test::default());
         rule.changes.push(Change::Keep);

@@ -1,9 +1,9 @@
-//! Drawing a policy from given measures: how many of each part, and how often
-//! each choice is taken.
+//! Drawing a policy of version 1 from given measures: how many of each part, and
+//! how often each choice is taken.
 
 use super::random::Random;
 use crate::frame::{Frame, MOST_VALUES};
-use crate::policy::{Change, Policy, Rule, Test};
+use crate::policy::{Change, Policy, Rule, Test, Version};
 
 /// How the levels of the rules are chosen.
 #[derive(Clone, Copy)]
@@ -48,11 +48,13 @@ pub(super) fn from_shape(shape: &Shape, random: &mut Random) -> Policy {
     }
     set_levels(&mut rules, shape.levels, random);
     Policy {
+        version: Version::One,
         frame: Frame {
             events: shape.events,
             counts: shape.counts.clone(),
         },
         variables: shape.greatest.len(),
+        starts: vec![0; shape.greatest.len()],
         rules,
         events: (0..shape.events)
             .map(|_| draw_changes(shape, random))
@@ -208,11 +210,13 @@ pub(super) fn plain_rule(mask: u16, accepts: bool, test: [u8; 2], change: Change
 /// A policy of such rules, with one field and one variable.
 pub(super) fn plain_policy(count: usize, rules: Vec<Rule>, events: Vec<Change>) -> Policy {
     Policy {
+        version: Version::One,
         frame: Frame {
             events: events.len(),
             counts: vec![count],
         },
         variables: 1,
+        starts: vec![0],
         rules,
         events: events.into_iter().map(|change| vec![change]).collect(),
     }

@@ -15,7 +15,7 @@ pub fn policy_pair(seed: u64) -> (Vec<u8>, Vec<u8>) {
 }
 
 /// Another policy of the same frame, often with the same book.
-fn vary(policy: &Policy, random: &mut Random) -> Policy {
+pub(super) fn vary(policy: &Policy, random: &mut Random) -> Policy {
     let mut varied = policy.clone();
     let place = random.below(varied.rules.len());
     match random.below(8) {

@@ -32,6 +32,12 @@ pub fn with_rule(policy: &[u8], rule: &str) -> Vec<u8> {
     longer
 }
 
+/// A policy of version 1 as a file of version 2 with these starting values.
+pub fn with_starts(policy: &[u8], starts: &[u8]) -> Vec<u8> {
+    let (before, rules) = policy.split_at(9 + policy[6] as usize);
+    with_byte(&[before, starts, rules].concat(), 4, 2)
+}
+
 /// The bytes with one of them changed.
 pub fn with_byte(original: &[u8], place: usize, byte: u8) -> Vec<u8> {
     let mut changed = original.to_vec();
@@ -88,6 +94,22 @@ pub fn policy_h() -> Vec<u8> {
 pub fn policy_s(top: u8) -> Vec<u8> {
     let head = "50 4F 4C 00 01 00 01 01 03 02 | 00 03 01 00 00 01 00 | 00 01 01 00 00 01 01";
     [bytes(head), bytes("00 03 01 00 01"), vec![top, 1]].concat()
+}
+
+/// Two variables with the bounds 2 and 3, in version 2: value 0 is accepted while
+/// the first is below 2, adding one to it, value 1 while the second is below 3,
+/// adding one to that; else they are rejected. The event sets only the first to
+/// zero.
+pub fn policy_two_counters(first: u8, second: u8) -> Vec<u8> {
+    let rules = "00 01 01 00 00 02 01 00 00 00 | 00 01 00 00 02 00 00 00 00 00 \
+                 | 00 02 01 00 00 00 00 00 03 01 | 00 02 00 00 00 00 00 03 00 00";
+    [
+        bytes("50 4F 4C 00 02 01 01 02 04 02"),
+        vec![first, second],
+        bytes(rules),
+        bytes("02 00"),
+    ]
+    .concat()
 }
 
 /// The book of a policy that is accepted.

@@ -6,7 +6,7 @@ use std::collections::BTreeSet;
 /// A set of valuations, each with one byte for every variable.
 pub type Set = BTreeSet<Vec<u8>>;
 
-/// A policy file that is accepted.
+/// A policy file of either version that is accepted.
 pub struct PlainPolicy<'a> {
     bytes: &'a [u8],
     events: usize,
@@ -28,9 +28,14 @@ impl<'a> PlainPolicy<'a> {
         }
     }
 
-    /// The start.
+    /// The start: zeros in version 1; in version 2 what stands after the value
+    /// counts, no greater than the bounds.
     pub fn start(&self) -> Set {
-        Set::from([vec![0; self.variables]])
+        let value = |variable: usize| match self.bytes[4] {
+            1 => 0,
+            _ => self.bytes[9 + self.fields + variable].min(self.bound(variable)),
+        };
+        Set::from([(0..self.variables).map(value).collect()])
     }
 
     /// The number of codes.
@@ -68,7 +73,11 @@ impl<'a> PlainPolicy<'a> {
 
     fn rule(&self, rule: usize) -> &[u8] {
         let length = 2 * self.fields + 2 + 3 * self.variables;
-        let first = 9 + self.fields + rule * length;
+        let starts = match self.bytes[4] {
+            1 => 0,
+            _ => self.variables,
+        };
+        let first = 9 + self.fields + starts + rule * length;
         &self.bytes[first..first + length]
     }
 
