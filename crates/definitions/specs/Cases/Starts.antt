@@ -2,14 +2,14 @@
 use mathlib.Core.List.{List, [], _∷_, _++_}
 use mathlib.Core.Option.{none, some}
 use Prim.Native.Nat.{ℕ}
-use lib.ListN.{set, take, replicate}
+use lib.ListN.{length, set, take, replicate}
 use Rattle.definitions.specs.Book.{concat}
 use Rattle.definitions.specs.Valuation.{startValuation}
-use Rattle.definitions.specs.Refusal.{policyRefusal}
+use Rattle.definitions.specs.Refusal.{policyRefusal, situations}
 use Rattle.definitions.specs.Build.{bookOf, bookRows}
 use Rattle.definitions.specs.Compare.{comparison}
 use Rattle.definitions.specs.Cases.Claim.{Claim, number, bytes, rows, history}
-use Rattle.definitions.specs.Cases.Samples.{policy, withStarts, policyA, bookA, twoBounds}
+use Rattle.definitions.specs.Cases.Samples.{policy, withStarts, policyA, policyS, bookA, twoBounds}
 use Rattle.definitions.specs.Cases.Places.{mixed, numbersWith}
 
 -- A as a file of version 2
@@ -27,6 +27,26 @@ noVariables = policy 0 0 1 (16 ∷ 0xFF ∷ 0xFF ∷ 1 ∷ 0 ∷ [])
 -- 4 variables, which begin at 1, at 1, above the bound and at 0
 abbrev startedMixed : List ℕ
 startedMixed = withStarts 2 (1 ∷ 1 ∷ 63 ∷ 0 ∷ []) mixed
+
+abbrev rowsOfStartedMixed : List (List ℕ)
+rowsOfStartedMixed =
+    (2 ∷ 3 ∷ 1 ∷ 1 ∷ 0 ∷ 1 ∷ 4 ∷ [])
+    ∷ (2 ∷ 5 ∷ 2 ∷ 2 ∷ 0 ∷ 2 ∷ 6 ∷ [])
+    ∷ (5 ∷ 3 ∷ 3 ∷ 0 ∷ 0 ∷ 2 ∷ 0 ∷ [])
+    ∷ (6 ∷ 7 ∷ 1 ∷ 0 ∷ 8 ∷ 4 ∷ 4 ∷ [])
+    ∷ (5 ∷ 5 ∷ 5 ∷ 3 ∷ 0 ∷ 2 ∷ 0 ∷ [])
+    ∷ (6 ∷ 9 ∷ 2 ∷ 0 ∷ 10 ∷ 6 ∷ 6 ∷ [])
+    ∷ (9 ∷ 7 ∷ 3 ∷ 0 ∷ 11 ∷ 6 ∷ 0 ∷ [])
+    ∷ (10 ∷ 7 ∷ 12 ∷ 0 ∷ 8 ∷ 4 ∷ 0 ∷ [])
+    ∷ (9 ∷ 9 ∷ 5 ∷ 0 ∷ 13 ∷ 6 ∷ 0 ∷ [])
+    ∷ (10 ∷ 9 ∷ 14 ∷ 0 ∷ 10 ∷ 6 ∷ 0 ∷ [])
+    ∷ (13 ∷ 7 ∷ 15 ∷ 0 ∷ 11 ∷ 10 ∷ 0 ∷ [])
+    ∷ (14 ∷ 3 ∷ 12 ∷ 1 ∷ 0 ∷ 1 ∷ 0 ∷ [])
+    ∷ (13 ∷ 9 ∷ 16 ∷ 0 ∷ 13 ∷ 10 ∷ 0 ∷ [])
+    ∷ (14 ∷ 5 ∷ 14 ∷ 2 ∷ 0 ∷ 2 ∷ 0 ∷ [])
+    ∷ (16 ∷ 3 ∷ 15 ∷ 0 ∷ 0 ∷ 14 ∷ 0 ∷ [])
+    ∷ (16 ∷ 5 ∷ 16 ∷ 15 ∷ 0 ∷ 14 ∷ 0 ∷ [])
+    ∷ []
 
 -- the head, the counts and the starting values; each rule's two masks, decision, level and four variables; the events' changes
 abbrev startedNumbers : List ℕ
@@ -82,6 +102,11 @@ startCases =
     ∷ number (policyRefusal (startedA 64 ++ (0 ∷ []))) 6
     -- and in version 1 there is none: what stands at its place is a mask
     ∷ number (policyRefusal (set policyA 10 64)) 8
+    -- several variables, the values of which stand in one number
+    ∷ rows (bookRows startedMixed) rowsOfStartedMixed
+    -- 11: what is reached depends on the start. S with 7 reaches 128 situations from 0, and 7 from 1
+    ∷ number (length (situations (withStarts 1 (1 ∷ []) (policyS 7)))) 7
+    ∷ number (policyRefusal (withStarts 1 (1 ∷ []) (policyS 7))) 0
     -- each byte in turn as 255
     ∷ bytes (numbersWith policyRefusal startedMixed 255) startedNumbers
     ∷ []
