@@ -1,4 +1,4 @@
-//! The eight lessons: a policy each, and what the error makes of it.
+//! The nine lessons: a policy each, and what the error makes of it.
 
 use reference::policy::{Change, Rule};
 
@@ -46,7 +46,7 @@ impl Lesson {
 }
 
 /// The lessons in the order of the guide.
-pub fn lessons() -> [Lesson; 8] {
+pub fn lessons() -> [Lesson; 9] {
     [
         each_rule_alone(),
         shut_door(),
@@ -56,6 +56,7 @@ pub fn lessons() -> [Lesson; 8] {
         present_decisions(),
         bound(),
         both_decisions(),
+        first_day(),
     ]
 }
 
@@ -201,4 +202,21 @@ fn both_decisions() -> Lesson {
     ];
     let refusable = daily(&["copy"], &["copies"], rules);
     Lesson::by_method("both-decisions", refusable, Mistake::OneSetForBothDecisions)
+}
+
+/// Case A again, whose counter is to be used up until the first midnight.
+fn first_day() -> Lesson {
+    let zero = two_copies_a_day();
+    let begun = zero.clone().beginning_at(&[2]);
+    Lesson::new(
+        "first-day",
+        begun,
+        Mistaken::Policy(
+            zero,
+            [
+                "with the starting value only",
+                "without the starting value only",
+            ],
+        ),
+    )
 }

@@ -90,13 +90,22 @@ pub fn table(
 }
 
 impl Table {
+    /// The same rules as a file of version 2, with a starting value for each variable.
+    pub fn beginning_at(mut self, starts: &[u8]) -> Table {
+        assert_eq!(starts.len(), self.variables.len());
+        self.policy.version = Version::Two;
+        self.policy.starts = starts.to_vec();
+        self
+    }
+
     /// The names of the events and requests.
     pub fn names(&self) -> Names {
         let names = [&self.events[..], &self.requests[..]].concat();
         Names::given(&self.policy.frame, &names).expect("a name for each event and request")
     }
 
-    /// The rules as a Markdown table, and a line for each event.
+    /// The rules as a Markdown table, a line for each event, and one for the
+    /// starting values where the file carries them.
     pub fn markdown(&self) -> String {
         let mut text =
             "| rule | request | when | decision | level | change |\n|---|---|---|---|---|---|\n"
@@ -119,7 +128,18 @@ impl Table {
                 self.changed(changes)
             ));
         }
+        if self.policy.version == Version::Two {
+            text.push_str(&format!("\nAt the start: {}.\n", self.starts()));
+        }
         text
+    }
+
+    fn starts(&self) -> String {
+        let starts = self.variables.iter().zip(&self.policy.starts);
+        let parts: Vec<String> = starts
+            .map(|(name, start)| format!("{name} = {start}"))
+            .collect();
+        parts.join(", ")
     }
 
     fn requests_of(&self, rule: &Rule) -> String {

@@ -1,5 +1,5 @@
 //! The mistaken methods are right but for their one error, and the lessons that
-//! stand for document 01's cases are those cases.
+//! stand for document 01's cases and for the file of version 2 are the samples.
 
 use guide::files::{book_of, earliest};
 use guide::lessons::lessons;
@@ -32,7 +32,7 @@ fn without_an_error_the_method_gives_the_book() {
 #[test]
 fn each_error_is_shown_by_its_own_lesson() {
     let shown: Vec<Vec<u8>> = lessons().iter().map(earliest).collect();
-    let expected: [&[u8]; 8] = [
+    let expected: [&[u8]; 9] = [
         &[3, 3, 2],
         &[3, 3, 1],
         &[1, 3],
@@ -41,6 +41,7 @@ fn each_error_is_shown_by_its_own_lesson() {
         &[3, 3, 3],
         &[3, 4, 4, 1],
         &[1, 1],
+        &[3],
     ];
     assert_eq!(shown, expected);
 }
@@ -57,8 +58,8 @@ fn an_error_changes_nothing_where_it_cannot_matter() {
 }
 
 #[test]
-fn three_lessons_are_cases_of_document_01() {
-    for (lesson, case) in [(0, "e"), (4, "h"), (5, "a")] {
+fn four_lessons_are_samples() {
+    for (lesson, case) in [(0, "e"), (4, "h"), (5, "a"), (8, "started")] {
         let sample = format!("{}/../samples/{case}.policy", env!("CARGO_MANIFEST_DIR"));
         let sample = std::fs::read(sample).expect("a sample");
         let table = &lessons()[lesson].table;

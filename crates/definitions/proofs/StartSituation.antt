@@ -3,7 +3,6 @@ use mathlib.Core.Path.{_≡_, sym, _∙_}
 use mathlib.Core.Logic.{_↔_}
 use mathlib.Core.List.{List}
 use Prim.Native.Nat.{ℕ, _<_}
-use native.Mathlib.Omega.{arith}
 use borrow.Author.Tests.{ne-eqb}
 use Rattle.definitions.specs.Bytes.{version}
 use Rattle.definitions.specs.Policy.{variables}
@@ -24,4 +23,4 @@ module _ (p : List ℕ) where
       back h = start-has p v .1 (valuations-same p v (startValuation p) l (start-valuation-below p) (λ j b. h j b ∙ sym (variable-start p j b)))
 
   pub start-right : StartIsRight p
-  start-right = record { valuation = valuation-is; zeros = λ e j. rw (ne-eqb (version p) 2 (λ two. omega arith)) }
+  start-right = record { valuation = valuation-is; zeros = λ other j. rw (ne-eqb (version p) 2 other) }

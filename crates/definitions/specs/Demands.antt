@@ -121,8 +121,8 @@ pub record StartIsRight (p : List ℕ) : Type 0 where
   -- its one valuation is that in which each variable has its starting value; "A start above the variable's bound counts as the bound"
   pub valuation : (v : ℕ) → v < valuations p
       → (bit (startSituation p) v ≡ true) ↔ ((j : ℕ) → j < P.variables p → variableIn p v j ≡ min (P.startingValue p j) (bound p j))
-  -- "Version 1 files read as all zeros"
-  pub zeros : version p ≡ 1 → (j : ℕ) → P.startingValue p j ≡ 0
+  -- "Version 1 files read as all zeros": what is not of version 2 carries none
+  pub zeros : (version p ≡ 2 → ⊥) → (j : ℕ) → P.startingValue p j ≡ 0
 
 -- two files of any versions with the same numbers, value counts, rules and changes of events: only versions and starting values may differ
 pub record SameRules (p q : List ℕ) : Type 0 where
