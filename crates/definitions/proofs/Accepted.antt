@@ -23,7 +23,7 @@ use Rattle.definitions.proofs.Requests.{some-request}
 use Rattle.definitions.proofs.Valuations.{some-valuation}
 use Rattle.definitions.specs.Checked.{BookHeader, BookLayout, BookPassed}
 
--- a policy file that rows 2 to 10 do not refuse
+-- a policy file that no row before row 11 refuses
 pub record FileAccepted (p : List ℕ) : Type 0 where
   pub long : 9 ≤ length p
   pub mark : (byte p 0 ≡ 0x50) × (byte p 1 ≡ 0x4F) × (byte p 2 ≡ 0x4C)

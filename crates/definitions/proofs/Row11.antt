@@ -1,4 +1,4 @@
--- Row 11 by histories: a file that rows 2 to 10 let pass is refused by row 11 exactly when 128 possible histories lead to situations no two of which
+-- Row 11 by histories: a file that the rows before it let pass is refused by row 11 exactly when 128 possible histories lead to situations no two of which
 -- are equal.
 use mathlib.Core.Path.{_≡_}
 use mathlib.Core.Logic.{_↔_}

@@ -67,7 +67,7 @@ refused-number p n e = rw (e, eqb·suc-zero n) refl
 second : (n : ℕ) (x y : List ℕ) → cond (eqb (suc n) 0) x y ≡ y
 second n x y = rw (eqb·suc-zero n) refl
 
--- what is written of a file that a row up to 10 refuses
+-- what is written of a file that a row before row 11 refuses
 refused-text : (p : List ℕ) (n : ℕ) → fileRefusal p ≡ suc n → policyText p ≡ line refusedWord (decimal (suc n))
 unfolding policyText
 refused-text p n e =

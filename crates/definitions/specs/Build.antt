@@ -21,7 +21,7 @@ unfoldable pub bookOf : List ℕ → List ℕ
 unfolding bookRows
 bookOf p = let rows = bookRows p in bookBytes (frame p) rows
 
--- row 1, "buffer under 17,284", then rows 2 to 11
+-- row 1, "buffer under 17,284", then the rows of the policy
 unfoldable pub buildRefusal : List ℕ → List ℕ → ℕ
 unfolding policyRefusal
 buildRefusal p buffer = judge 1 (leb 17284 (length buffer)) (policyRefusal p)

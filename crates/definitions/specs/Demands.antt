@@ -137,7 +137,7 @@ pub record SameRules (p q : List ℕ) : Type 0 where
 abbrev pub StartsAreRight : List ℕ → List ℕ → Type 0
 StartsAreRight p q = ((j : ℕ) → j < P.variables p → initialValue p j ≡ initialValue q j) → (policyRefusal p ≡ policyRefusal q) × (bookOf p ≡ bookOf q)
 
--- ---- row 11: "over 127 situations reached, before joining alike ones", for a file that rows 2 to 10 let pass: it is turned down exactly when 128 possible
+-- ---- row 11: "over 127 situations reached, before joining alike ones", for a file that the rows before it let pass: it is turned down exactly when 128 possible
 -- histories lead to situations no two of which are equal
 abbrev pub Row11IsRight : List ℕ → Type 0
 Row11IsRight p = (policyRefusal p ≡ 11) ↔ DistinctStates (policyMachine p) 128

@@ -1,4 +1,5 @@
--- "Where input is turned down": the number of "the lowest row that fits", 0 if none does. Each row is judged only where those before it do not fit.
+-- "Where input is turned down": the number of the first row that fits, 0 if none does. Rows are judged in the order of document 01 and, for 17, of request 2,
+-- each only where those before it do not fit.
 use mathlib.Core.Path.{_≡_}
 use mathlib.Core.Bool.{Bool, cond, _&&_, _||_}
 use mathlib.Core.List.{List, [], _∷_}

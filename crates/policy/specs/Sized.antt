@@ -32,7 +32,7 @@ pub record ChangesOf (p t : List ℕ) : Type 0 where
   pub sized : Sized p
   pub changes : t ≡ rule p (rules p)
 
--- the file is accepted by rows 2 to 10
+-- no row before row 11 refuses the file
 pub record Passed (p : List ℕ) : Type 0 where
   pub sized : Sized p
   pub counts : countsHold p ≡ true
