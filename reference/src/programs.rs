@@ -62,10 +62,32 @@ pub fn policies() -> Vec<Vec<u8>> {
     policies.extend(EXAMPLES.iter().map(|text| bytes(text)));
     policies.extend(first_small(generate::policy, 36));
     policies.extend(first_small(generate::damaged_policy, 36));
+    policies.extend(starting_as());
     policies.extend(STARTING.iter().map(|text| bytes(text)));
     policies.extend(first_small(generate::starting_policy, 18));
     policies.extend(first_small(generate::damaged_starting_policy, 18));
     policies
+}
+
+/// Case A in version 2 with the starts 0, 1, 2, 63 and 64, with no start, with a
+/// bad count beside the bad start, and with a bad mask beside it; and as version 3.
+fn starting_as() -> Vec<Vec<u8>> {
+    let mut policies: Vec<Vec<u8>> = [0, 1, 2, 63, 64].map(|start| starting_a(&[start])).into();
+    policies.push(starting_a(&[]));
+    for (start, place, byte) in [(64, 9, 17), (64, 12, 4), (0, 4, 3)] {
+        let mut policy = starting_a(&[start]);
+        policy[place] = byte;
+        policies.push(policy);
+    }
+    policies
+}
+
+/// Case A in version 2 with these bytes after its value count.
+fn starting_a(starts: &[u8]) -> Vec<u8> {
+    let (head, rules) = TABLE[0].split_at(10);
+    let mut policy = [head, starts, rules].concat();
+    policy[4] = 2;
+    policy
 }
 
 /// So many inputs of the generator whose books, if they have any, are small.
@@ -122,29 +144,9 @@ const EXAMPLES: [&str; 14] = [
      | 00 01 00 FF 00 00 3E 3F 00 | 00 FE 00 FF 00 00 3F 00 00 | 00 00 00 00 00 00 00 00",
 ];
 
-/// Case A in version 2 with the starts 0, 1, 2, 63 and 64, with no start, with a
-/// bad count beside the bad start, and with a bad mask beside it; case A as
-/// version 3; two variables with the bounds 2 and 3 that start at 1 and 2; case S
-/// with 7 from 1 on; and no variables.
-const STARTING: [&str; 12] = [
-    "50 4F 4C 00 02 01 01 01 03 02 | 00 | 00 01 01 00 00 00 00 | 00 02 01 00 00 02 01 \
-     | 00 02 00 00 02 00 00 | 02",
-    "50 4F 4C 00 02 01 01 01 03 02 | 01 | 00 01 01 00 00 00 00 | 00 02 01 00 00 02 01 \
-     | 00 02 00 00 02 00 00 | 02",
-    "50 4F 4C 00 02 01 01 01 03 02 | 02 | 00 01 01 00 00 00 00 | 00 02 01 00 00 02 01 \
-     | 00 02 00 00 02 00 00 | 02",
-    "50 4F 4C 00 02 01 01 01 03 02 | 3F | 00 01 01 00 00 00 00 | 00 02 01 00 00 02 01 \
-     | 00 02 00 00 02 00 00 | 02",
-    "50 4F 4C 00 02 01 01 01 03 02 | 40 | 00 01 01 00 00 00 00 | 00 02 01 00 00 02 01 \
-     | 00 02 00 00 02 00 00 | 02",
-    "50 4F 4C 00 02 01 01 01 03 02 | 00 01 01 00 00 00 00 | 00 02 01 00 00 02 01 \
-     | 00 02 00 00 02 00 00 | 02",
-    "50 4F 4C 00 02 01 01 01 03 11 | 40 | 00 01 01 00 00 00 00 | 00 02 01 00 00 02 01 \
-     | 00 02 00 00 02 00 00 | 02",
-    "50 4F 4C 00 02 01 01 01 03 02 | 40 | 00 04 01 00 00 00 00 | 00 02 01 00 00 02 01 \
-     | 00 02 00 00 02 00 00 | 02",
-    "50 4F 4C 00 03 01 01 01 03 02 | 00 | 00 01 01 00 00 00 00 | 00 02 01 00 00 02 01 \
-     | 00 02 00 00 02 00 00 | 02",
+/// Two variables with the bounds 2 and 3 that start at 1 and 2; case S with 7
+/// from 1 on; and no variables.
+const STARTING: [&str; 3] = [
     "50 4F 4C 00 02 01 01 02 04 02 | 01 02 | 00 01 01 00 00 02 01 00 00 00 \
      | 00 01 00 00 02 00 00 00 00 00 | 00 02 01 00 00 00 00 00 03 01 \
      | 00 02 00 00 00 00 00 03 00 00 | 02 00",
