@@ -1,6 +1,6 @@
 -- What acceptance gives: the plain facts about a policy that is not refused, and about a book that the checks pass, for which they are also enough.
 use mathlib.Core.Path.{_≡_, refl}
-use mathlib.Core.Bool.{true, _&&_, _||_}
+use mathlib.Core.Bool.{true, _||_}
 use mathlib.Core.Logic.{_↔_, _⊎_, inl, inr}
 use mathlib.Core.List.{List}
 use Prim.Native.Nat.{ℕ, zero, suc, _+_, _*_, _^_, _≤_, _<_}
@@ -11,7 +11,7 @@ use lib.ListN.{length}
 use borrow.Author.Tests.{leb-true, ltb-true, eqb-true, le-leb, lt-leb, lt-ltb, le-ltb, eq-eqb}
 use Rattle.automaton.specs.Below.{allBelow}
 use Rattle.automaton.proofs.Below.{and-true, or-true, all-below, all-below-at}
-use Rattle.definitions.specs.Bytes.{byte, version, hasMark}
+use Rattle.definitions.specs.Bytes.{byte, version}
 use Rattle.definitions.specs.Policy.{events, fields, variables, rules, count, requests, width, startingValue, exactLength, rule, mask, decision, ge, lt, change, eventChange}
 use Rattle.definitions.specs.Valuation.{valuations}
 use Rattle.definitions.specs.Book as B

@@ -9,7 +9,7 @@ use lib.Dec.{ltb}
 use borrow.Author.Tests.{ltb-true}
 use Rattle.automaton.proofs.Below.{greatest-below, greatest-below-least}
 use Rattle.definitions.specs.Policy.{variables, rules, rule, ge, lt}
-use Rattle.definitions.specs.Valuation.{tested, bound, valuesOf, worth, valuations, valuationOf, initialValue, startValuation, variableIn, changed, changedIn, carriedOut}
+use Rattle.definitions.specs.Valuation.{tested, bound, valuesOf, valuations, valuationOf, initialValue, startValuation, variableIn, changed, changedIn, carriedOut}
 use Rattle.definitions.proofs.Radix.{product-some, low-below, low-digit, low-digit-below, low-unique}
 
 -- a change keeps a variable at or below its bound
@@ -59,7 +59,7 @@ module _ (p : List ℕ) where
     variable-of = low-digit (valuesOf p) (variables p) values values-below
 
   -- ---- the start
-  initial-bound : (j : ℕ) → j < variables p → initialValue p j ≤ bound p j
+  pub initial-bound : (j : ℕ) → j < variables p → initialValue p j ≤ bound p j
   initial-bound j l = omega arith
 
   pub start-valuation-below : startValuation p < valuations p

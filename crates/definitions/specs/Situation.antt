@@ -1,7 +1,7 @@
 -- Which rules apply, situations, and where the steps lead, as document 01's section "Situations" has it. A policy is a machine on situations.
 use mathlib.Core.Bool.{Bool, cond, true, not, _&&_}
 use mathlib.Core.List.{List}
-use Prim.Native.Nat.{ℕ, zero, suc, _+_, _-_, _*_, _/_, _%_, _^_}
+use Prim.Native.Nat.{ℕ, zero, suc, _^_}
 use lib.Bits.{bitOr}
 use lib.Dec.{leb, ltb, eqb}
 use Rattle.automaton.specs.Below.{allBelow, anyBelow, foldBelow}

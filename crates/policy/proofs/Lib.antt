@@ -1,3 +1,3 @@
 pub mod Parts
 pub mod PassedFile
-pub mod StartSums
+pub mod ValuationSums

@@ -3,7 +3,7 @@ ghost use mathlib.Core.Path.{_≡_};
 ghost use Prim.Native.Nat.{_<_, max, min};
 ghost use Rattle.definitions.specs.Policy.{variables};
 ghost use Rattle.definitions.specs.Valuation.{tested, bound, valuations, startValuation};
-ghost use Rattle.policy.specs.Sized.{TableOf, RuleOf};
+ghost use Rattle.policy.specs.Sized.{Passed, TableOf, RuleOf};
 use super::header;
 use super::part;
 use super::record;
@@ -58,20 +58,18 @@ pub fn valuations(policy: &[u8], table: &[u8]) -> usize
     product
 }
 
-// The valuation before any step: each variable has its starting value, or its bound where that is less. A file of version 1 carries none, and all are 0.
+// The valuation before any step: each variable has its starting value, or its bound where that is less. A file of version 1 carries none, and all are 0. The
+// last variable is the highest digit.
 pub fn start(policy: &[u8], table: &[u8]) -> usize
-    requires { ⌜ TableOf (now policy) (now table) ⌝ }
+    requires { ⌜ Passed (now policy) × TableOf (now policy) (now table) ⌝ }
     ensures { λ r. ⌜ r ≡ startValuation (now (policy .entry)) ⌝ }
 {
-    let n = header::starts(policy);
     let mut sum = 0;
-    let mut worth = 1;
-    let mut j = 0;
-    while j < n {
+    let mut j = header::starts(policy);
+    while 0 < j {
+        j -= 1;
         let most = bound(policy, table, j);
-        sum = sum + lesser(header::start(policy, j), most) * worth;
-        worth = worth * (most + 1);
-        j += 1;
+        sum = sum * (most + 1) + lesser(header::start(policy, j), most);
     }
     sum
 }

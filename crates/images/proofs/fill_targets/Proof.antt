@@ -1,5 +1,4 @@
 -- `images::fill_targets` meets its contract. The loop's invariant: the first k entries are filled.
-use mathlib.Core.Path.{_≡_}
 use Prim.Native.Nat.{_≤_, _-_}
 use native.Mathlib.Omega.{arith}
 use borrow.Author.Needs.{needs}

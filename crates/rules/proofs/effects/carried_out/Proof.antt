@@ -1,22 +1,31 @@
 -- `rules::effects::carried_out` meets its contract. The loop's invariant: `sum` has the changed variables from j on.
-use mathlib.Core.Path.{_≡_, ap, _∙_}
+use mathlib.Core.Path.{_≡_, ap, ap₂, _∙_}
 use Prim.Native.Nat.{ℕ, _≤_, _<_, _-_, _+_, _*_}
 use native.Mathlib.Omega.{arith}
 use lib.ListN.{length, getD}
 use borrow.Author.Needs.{needs}
 use Rattle.definitions.specs.Policy.{variables}
-use Rattle.definitions.specs.Valuation.{bound, changed}
+use Rattle.definitions.specs.Valuation.{bound, withVariable, changed}
+use Rattle.automaton.specs.Below.{foldBelow}
+use Rattle.policy.proofs.ValuationSums.{bound-small, Summed, summed-none, summed-more, summed-all, valuation-low, summed-low}
 use Rattle.rules.specs.Arrays.{entryOf}
-use Rattle.rules.specs.Changes.{changeAt}
-use Rattle.rules.proofs.Changes.{Carrying, carrying-begun, carrying-more, carrying-done, carried-low, carrying-fits, bound-small}
+use Rattle.rules.specs.Changes.{changeAt, changedBy}
+use Rattle.rules.proofs.Changes.{changed-within}
 use Rattle.rules.proofs.effects.carried_out.Statement.{statement}
 use Rattle.rules.proofs.effects.carried_out.Tie as tie
 
 abbrev Inv-loop : tie.InvT-loop
-Inv-loop policy part first step bounds values sum₀ j₀ sum j = (j ≤ variables policy) × Carrying policy (changeAt part first step) (entryOf values) j sum
+Inv-loop policy part first step bounds values sum₀ j₀ sum j = (j ≤ variables policy) × Summed policy (changedBy policy (changeAt part first step) (entryOf values)) j sum
 
 abbrev μ-loop : tie.MeasureT-loop
 μ-loop policy part first step bounds values sum₀ j₀ sum j = j
+
+-- the changed values, which stay within their bounds
+abbrev changes : tie.Start Inv-loop μ-loop → ℕ → ℕ
+changes s = changedBy (s .args .policy .now) (changeAt (s .args .part .now) (s .args .first) (s .args .step)) (entryOf (s .args .values .now))
+
+within-bounds : (s : tie.Start Inv-loop μ-loop) (j : ℕ) → j < variables (s .args .policy .now) → changes s j ≤ bound (s .args .policy .now) j
+within-bounds s = changed-within (s .args .policy .now) (changeAt (s .args .part .now) (s .args .first) (s .args .step)) (entryOf (s .args .values .now)) (s .pre .2 .most)
 
 bound-is : (c : tie.In-loop Inv-loop μ-loop)
     → let start = c .before .before .before .before .before .before .before in
@@ -36,15 +45,16 @@ within c =
 next : (c : tie.After-changed Inv-loop μ-loop)
     → let start = c .before .before .before .before .before .before .before .before .before .before .before .before in
     let loop = c .before .before .before .before .before .before .loop in
-    Carrying (start .args .policy .now) (changeAt (start .args .part .now) (start .args .first) (start .args .step)) (entryOf (start .args .values .now)) (loop .j - 1)
+    Summed (start .args .policy .now) (changes start) (loop .j - 1)
     (loop .sum * (getD (start .args .bounds .now) (loop .j - 1) 0 + 1) + c .changed .result)
 next c =
-    let a = c .before .before .before .before .before .before .before .before .before .before .before .before .args in
+    let start = c .before .before .before .before .before .before .before .before .before .before .before .before in
+    let a = start .args in
     let loop = c .before .before .before .before .before .before .loop in
     let most = getD (a .bounds .now) (loop .j - 1) 0 in
-    carrying-more (a .policy .now) (changeAt (a .part .now) (a .first) (a .step)) (entryOf (a .values .now)) (loop .j) (loop .sum) most (c .changed .result)
-    (omega arith) (loop .inv .1) (bound-is (c .before .before .before .before .before))
-    (c .changed .ensures .0 ∙ ap (λ (n : ℕ). changed n most (entryOf (a .values .now) (loop .j - 1))) (c .before .before .wide .ensures .0))
+    let is = bound-is (c .before .before .before .before .before) in
+    summed-more (a .policy .now) (changes start) (loop .j) (loop .sum) most (c .changed .result) (omega arith) (loop .inv .1) is
+    (c .changed .ensures .0 ∙ ap₂ (λ (n b : ℕ). changed n b (entryOf (a .values .now) (loop .j - 1))) (c .before .before .wide .ensures .0) is)
 
 fits : (c : tie.After-changed Inv-loop μ-loop)
     → let start = c .before .before .before .before .before .before .before .before .before .before .before .before in
@@ -54,7 +64,7 @@ fits c =
     let start = c .before .before .before .before .before .before .before .before .before .before .before .before in
     let a = start .args in
     let loop = c .before .before .before .before .before .before .loop in
-    carrying-fits (a .policy .now) (changeAt (a .part .now) (a .first) (a .step)) (entryOf (a .values .now)) (start .pre .0) (start .pre .2 .most) (loop .j - 1)
+    summed-low (a .policy .now) (changes start) (start .pre .0 .fewValuations) (within-bounds start) (loop .j - 1)
     (loop .sum * (getD (a .bounds .now) (loop .j - 1) 0 + 1) + c .changed .result) (next c)
 
 variables-requires : tie.Need-variables-requires Inv-loop μ-loop
@@ -62,8 +72,9 @@ variables-requires c κs = search needs
 
 loop-holds : tie.Need-loop-holds Inv-loop μ-loop
 loop-holds c =
-    let a = c .before .before .before .before .before .args in
-    (omega arith, carrying-begun (a .policy .now) (changeAt (a .part .now) (a .first) (a .step)) (entryOf (a .values .now)) (c .variables .result) (c .variables .ensures .0))
+    let start = c .before .before .before .before .before in
+    let p = start .args .policy .now in
+    (omega arith, summed-none p (changes start) (c .variables .result) (ap (λ (n : ℕ). foldBelow n 0 (withVariable p (changes start))) (c .variables .ensures .0)))
 
 sub-j : tie.Need-sub-j Inv-loop μ-loop
 sub-j c = search needs
@@ -100,7 +111,7 @@ changed-requires c κs =
 add-sum : tie.Need-add-sum Inv-loop μ-loop
 add-sum c =
     let start = c .before .before .before .before .before .before .before .before .before .before .before .before in
-    let small = bound-small (start .args .policy .now) (start .pre .0) (c .before .before .before .before .before .before .loop .j - 1) (omega arith) in omega (arith, bound-is (c .before .before .before .before .before))
+    let small = bound-small (start .args .policy .now) (start .pre .0 .fewValuations) (c .before .before .before .before .before .before .loop .j - 1) (omega arith) in omega (arith, bound-is (c .before .before .before .before .before))
 
 mul-sum : tie.Need-mul-sum Inv-loop μ-loop
 mul-sum c = omega (arith, fits c)
@@ -119,8 +130,8 @@ returns c =
     let start = c .before .before .before .before .before .before .before in
     let a = start .args in
     let loop = c .before .loop in
-    let e = carrying-done (a .policy .now) (changeAt (a .part .now) (a .first) (a .step)) (entryOf (a .values .now)) (loop .j) (loop .sum) (omega (arith, c .loop-test .left)) (loop .inv .1) in
-    (e, rw e (carried-low (a .policy .now) (changeAt (a .part .now) (a .first) (a .step)) (entryOf (a .values .now)) (start .pre .0) (start .pre .2 .most)))
+    let e = summed-all (a .policy .now) (changes start) (loop .j) (loop .sum) (omega (arith, c .loop-test .left)) (loop .inv .1) in
+    (e, rw e (valuation-low (a .policy .now) (changes start) (start .pre .0 .fewValuations) (within-bounds start)))
 
 pub carried-out-spec : {M : Type 1} → statement M
 carried-out-spec =

@@ -8,7 +8,8 @@ use Rattle.automaton.proofs.FilledList.{FilledUpTo, filled-begun, filled-turn}
 use Rattle.definitions.specs.Policy.{variables}
 use Rattle.definitions.specs.Valuation.{bound, worth, valuesOf, variableIn}
 use Rattle.rules.proofs.Arrays.{filled-tabled}
-use Rattle.rules.proofs.Changes.{rest-more, variable-is, bound-small}
+use Rattle.rules.proofs.Changes.{rest-more, variable-is}
+use Rattle.policy.proofs.ValuationSums.{bound-small}
 use Rattle.rules.proofs.effects.fill_variables.Statement.{statement}
 use Rattle.rules.proofs.effects.fill_variables.Tie as tie
 
@@ -30,7 +31,7 @@ small : (c : tie.In-loop Inv-loop μ-loop)
     getD (start .args .bounds .now) (c .before .loop .j) 0 < 64
 small c =
     let start = c .before .before .before .before .before .before in
-    rw (bound-is c) (bound-small (start .args .policy .now) (start .pre .0) (c .before .loop .j) (omega arith))
+    rw (bound-is c) (bound-small (start .args .policy .now) (start .pre .0 .fewValuations) (c .before .loop .j) (omega arith))
 
 variables-requires : tie.Need-variables-requires Inv-loop μ-loop
 variables-requires c κs = search needs
