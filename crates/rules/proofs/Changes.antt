@@ -1,4 +1,4 @@
--- Valuations as numbers in mixed radix: taking off one variable after another, and putting changed ones together again.
+-- Valuations as numbers in mixed radix, variable by variable: taking off one after another, testing and changing one, and changed ones within their bounds.
 use mathlib.Core.Path.{_≡_, refl}
 use mathlib.Core.Bool.{cond, _||_}
 use mathlib.Core.List.{List}
