@@ -25,23 +25,21 @@ use Rattle.definitions.specs.Verdict.{eventsFrom, isNone, isBlocked}
 use Rattle.definitions.specs.Demands.{Unanswered, Events, BlockedAfter}
 use Rattle.definitions.specs.Checked.{BookPassed}
 use Rattle.definitions.proofs.BookSteps.{step-inside, has-states, events-possible}
+use Rattle.definitions.proofs.HistoryTellings.{code-at}
 
 neither-true : (a c : Bool) → (a || c) ≡ false → (a ≡ false) × (c ≡ false)
 neither-true true c e = absurd (true≢false e)
 neither-true false c e = (refl, e)
 
--- ---- what is possible after a history is possible at its state
+-- ---- an unanswered request
 module _ (b : List ℕ) (h : History) where
-  pub code-at : (c : ℕ) → possible (bookMachine b) (h ++ (c ∷ [])) ≡ isState (step (bookMachine b) (after (bookMachine b) 1 h) c)
-  code-at c = ap isState (after-append (bookMachine b) 1 h (c ∷ []))
-
   pub unanswered-to : (r : ℕ) → Unanswered (bookMachine b) (events b) h r → answered b (after (bookMachine b) 1 h) r ≡ false
-  unanswered-to r a = rw (← code-at (acceptCode (events b) r), ← code-at (rejectCode (events b) r), a .0) (a .1)
+  unanswered-to r a = rw (← code-at b h (acceptCode (events b) r), ← code-at b h (rejectCode (events b) r), a .0) (a .1)
 
   pub unanswered-from : (r : ℕ) → answered b (after (bookMachine b) 1 h) r ≡ false → Unanswered (bookMachine b) (events b) h r
   unanswered-from r p =
       let both = neither-true (acceptable b (after (bookMachine b) 1 h) r) (rejectable b (after (bookMachine b) 1 h) r) p in
-      (code-at (acceptCode (events b) r) ∙ both .0, code-at (rejectCode (events b) r) ∙ both .1)
+      (code-at b h (acceptCode (events b) r) ∙ both .0, code-at b h (rejectCode (events b) r) ∙ both .1)
 
 -- ---- the events from state s are those of the book
 module _ (b : List ℕ) (s : ℕ) where

@@ -1,21 +1,23 @@
--- Demands 2 and 3 over the calls: the books that build leaves in buffers, whatever these held, and what verdict and compare answer on them.
+-- Demands 2 and 3 and the way over the calls: the books that build leaves in buffers, whatever these held, and what verdict, compare and way answer on them.
 use mathlib.Core.Path.{_≡_, refl, sym, ap₂, _∙_, subst⁻¹, subst₂}
 use mathlib.Core.List.{List}
-use Prim.Native.Nat.{ℕ, _≤_}
+use Prim.Native.Nat.{ℕ, _≤_, _<_}
 use lib.ListN.{length}
-use borrow.Author.Tests.{le-leb}
+use borrow.Author.Tests.{le-leb, lt-ltb}
 use Rattle.automaton.proofs.Below.{same-list-refl}
 use Rattle.definitions.specs.Answer.{given, written, historyBytes}
+use Rattle.definitions.specs.Policy as P
 use Rattle.definitions.specs.Book as B
 use Rattle.definitions.specs.Refusal.{Accepted, bookRefusal, row15}
 use Rattle.definitions.specs.Build.{bookOf, buildRefusal, buildAnswer, buildBuffer}
 use Rattle.definitions.specs.Verdict.{findings, verdictRefusal, verdictAnswer, verdictBuffers}
 use Rattle.definitions.specs.Compare.{comparison, compareRefusal, compareAnswer, compareBuffer}
-use Rattle.definitions.specs.Demands.{bookIn, bookBuilt, buffersWith, JudgedInBuffers, Demand2OfCalls, BooksInBuffers, Demand3OfCalls}
+use Rattle.definitions.specs.Way.{way, wayRefusal, wayAnswer, wayBuffer}
+use Rattle.definitions.specs.Demands.{bookIn, bookBuilt, buffersWith, JudgedInBuffers, Demand2OfCalls, BooksInBuffers, Demand3OfCalls, WayInBuffer, WayOfCalls}
 use Rattle.definitions.proofs.Answers.{given-answer, given-buffer}
 use Rattle.definitions.proofs.Written.{take-written}
-use Rattle.definitions.proofs.BookOf.{built-passes, frames-same}
-use Rattle.definitions.proofs.Demands.{demand2, demand3}
+use Rattle.definitions.proofs.BookOf.{built-passes, built-requests, frames-same}
+use Rattle.definitions.proofs.Demands.{demand2, demand3, policy-way}
 
 -- ---- build
 module _ (p buffer : List ℕ) (accepted : Accepted p) (long : 17284 ≤ length buffer) where
@@ -69,6 +71,20 @@ module _ (b d history : List ℕ) (first : bookRefusal b ≡ 0) (second : bookRe
   unfolding compareBuffer
   compare-written = given-buffer (compareRefusal b d history) (historyBytes (comparison b d)) history compare-passes
 
+-- ---- way
+module _ (b : List ℕ) (r outcome : ℕ) (history : List ℕ) (passes : bookRefusal b ≡ 0) (long : 128 ≤ length history) (few : outcome ≤ 3) (low : r < B.requests b) where
+  way-passes : wayRefusal b r outcome history ≡ 0
+  unfolding wayRefusal
+  way-passes = rw (le-leb 128 (length history) long, passes, le-leb outcome 3 few, lt-ltb r (B.requests b) low)
+
+  way-given : wayAnswer b r outcome history ≡ given (way b r outcome)
+  unfolding wayAnswer
+  way-given = sym (given-answer (wayRefusal b r outcome history) way-passes (way b r outcome))
+
+  way-written : wayBuffer b r outcome history ≡ written (historyBytes (way b r outcome)) history
+  unfolding wayBuffer
+  way-written = given-buffer (wayRefusal b r outcome history) (historyBytes (way b r outcome)) history way-passes
+
 pub demand2-of-calls : (p buffer forConflict forMissing forBlocked : List ℕ) → Accepted p → 17284 ≤ length buffer
     → 128 ≤ length forConflict → 128 ≤ length forMissing → 128 ≤ length forBlocked → Demand2OfCalls p buffer forConflict forMissing forBlocked
 demand2-of-calls p buffer forConflict forMissing forBlocked accepted long longConflict longMissing longBlocked =
@@ -97,4 +113,18 @@ demand3-of-calls p q first second history one two long-first long-second long =
             compare-written (bookOf p) (bookOf q) history (built-passes p one) (built-passes q two) same long,
             demand3 p q one two .compared frames,
           );
+    })
+
+pub way-of-calls : (p buffer : List ℕ) (r outcome : ℕ) (history : List ℕ) → Accepted p → 17284 ≤ length buffer → r < P.requests p → outcome ≤ 3 → 128 ≤ length history
+    → WayOfCalls p buffer r outcome history
+way-of-calls p buffer r outcome history accepted long low few room =
+    let b = bookOf p in
+    let passes = built-passes p accepted in
+    let below : r < B.requests b = subst⁻¹ (λ (Q : ℕ). r < Q) (built-requests p accepted) low in
+    subst⁻¹ (λ (d : List ℕ). WayInBuffer p d r outcome history) (book-built p buffer accepted long)
+    (record {
+      shown = way b r outcome;
+      answered = way-given b r outcome history passes room few below;
+      buffer = way-written b r outcome history passes room few below;
+      right = policy-way p accepted r outcome;
     })

@@ -14,19 +14,20 @@ use Rattle.definitions.specs.Refusal.{policyRefusal, situations, bookRef
 use Rattle.definitions.specs.Build.{bookOf, bookRows, buildAnswer, buildBuffer}
 use Rattle.definitions.specs.Verdict.{Found, Findings, findings, verdictAnswer, verdictBuffers}
 use Rattle.definitions.specs.Compare.{comparison, compareAnswer, compareBuffer}
-use Rattle.definitions.specs.Telling.{Telling, none as untold, accept, reject, both}
+use Rattle.definitions.specs.Telling.{Telling, none as untold, accept, reject, both, outcomeOf}
 use Rattle.definitions.specs.Opened.{openAnswer, tellAnswer, stepRefusal, stepState}
 use Rattle.definitions.specs.Shelf.{shelfText}
 use Rattle.definitions.specs.Page.{page, pageAnswer, pageBuffer}
+use Rattle.definitions.specs.Way.{way, wayAnswer, wayBuffer}
 use Rattle.definitions.specs.Cases.Table.{cases}
-use Rattle.definitions.specs.Cases.Claim.{Claim, number, says, bytes, rows, found, history, builds, finds, compares, tells, Holds, test, sameRows, sameOption, sameAnswer, sameFound, sameFindings, tellingNumber, sameTelling}
+use Rattle.definitions.specs.Cases.Claim.{Claim, number, says, bytes, rows, found, history, builds, finds, compares, tells, Holds, test, sameRows, sameOption, sameAnswer, sameFound, sameFindings, sameTelling}
 
 abbrev fails : Claim → Bool
 fails claim = not (test claim)
 
 -- the number of the first case that fails is 0: none does
 none-fails : placeOf fails cases ≡ 0
-unfolding bookOf bookRows situations findings comparison policyRefusal bookRefusal buildAnswer buildBuffer verdictAnswer verdictBuffers compareAnswer compareBuffer openAnswer tellAnswer stepRefusal stepState shelfText page pageAnswer pageBuffer
+unfolding bookOf bookRows situations findings comparison policyRefusal bookRefusal buildAnswer buildBuffer verdictAnswer verdictBuffers compareAnswer compareBuffer openAnswer tellAnswer stepRefusal stepState shelfText page pageAnswer pageBuffer way wayAnswer wayBuffer
 none-fails = refl
 
 -- ---- what passes a test is equal
@@ -75,14 +76,14 @@ same-findings-true x y e =
     let blocked = same-option-true sameList same-list-true (x .blocked) (y .blocked) (two .1) in
     λ i. record { conflict = conflict i; missing = missing i; blocked = blocked i }
 
--- the telling of a number
+-- the telling of an outcome
 numbered : ℕ → Telling
 numbered zero = untold
 numbered (suc zero) = accept
 numbered (suc (suc zero)) = reject
 numbered (suc (suc (suc n))) = both
 
-numbered-telling : (x : Telling) → numbered (tellingNumber x) ≡ x
+numbered-telling : (x : Telling) → numbered (outcomeOf x) ≡ x
 unfolding numbered
 numbered-telling untold = refl
 numbered-telling accept = refl
@@ -90,7 +91,7 @@ numbered-telling reject = refl
 numbered-telling both = refl
 
 same-telling-true : (x y : Telling) → sameTelling x y ≡ true → x ≡ y
-same-telling-true x y e = sym (numbered-telling x) ∙ ap numbered (eqb-true (tellingNumber x) (tellingNumber y) e) ∙ numbered-telling y
+same-telling-true x y e = sym (numbered-telling x) ∙ ap numbered (eqb-true (outcomeOf x) (outcomeOf y) e) ∙ numbered-telling y
 
 passed : (claim : Claim) → test claim ≡ true → Holds claim
 passed (number x y) e = eqb-true x y e

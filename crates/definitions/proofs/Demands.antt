@@ -1,7 +1,7 @@
--- The owner's demands 2 and 3, the states of the book of a policy, the start, row 11 and the levels, and what verdict, compare and the page owe for any book. No
--- theorem here has a hypothesis beyond this: the policies are accepted, or for row 11 and for the starts the rows before row 11 let the files pass, or the books pass
+-- The owner's demands 2 and 3, the states of the book of a policy, the start, row 11 and the levels, and what verdict, compare, the page and the way owe
+-- for any book. No theorem here has a hypothesis beyond this: the policies are accepted, or for row 11 and for the starts the rows before row 11 let the files pass, or the books pass
 -- the checks and, where two are compared, have one frame.
-use mathlib.Core.Path.{_≡_, sym, ap, _∙_, subst₂}
+use mathlib.Core.Path.{_≡_, sym, ap, _∙_, subst, subst₂}
 use mathlib.Core.List.{List}
 use Prim.Native.Nat.{ℕ}
 use Rattle.automaton.specs.Machine.{possible, SameHistories}
@@ -12,16 +12,19 @@ use Rattle.definitions.specs.Refusal.{Accepted}
 use Rattle.definitions.specs.Build.{bookOf}
 use Rattle.definitions.specs.Verdict.{findings}
 use Rattle.definitions.specs.Compare.{comparison}
-use Rattle.definitions.specs.Demands.{FindingsAreRight, Demand2, Demand3}
+use Rattle.definitions.specs.Way.{way}
+use Rattle.definitions.specs.Demands.{FindingsAreRight, Demand2, Demand3, WayIsRight}
 use Rattle.definitions.proofs.Accepted.{book-passed}
 use Rattle.definitions.proofs.BookOf.{built-frame, built-events, built-requests, built-histories, built-passes, frames-same, books-same}
-use Rattle.definitions.proofs.SameHistories.{findings-along, comparison-along}
+use Rattle.definitions.proofs.SameHistories.{findings-along, comparison-along, way-along}
 -- verdict-right : (b : List ℕ) → bookRefusal b ≡ 0 → VerdictIsRight b
 pub use Rattle.definitions.proofs.Verdicts.{verdict-right}
 -- compare-right : (b d : List ℕ) → bookRefusal b ≡ 0 → bookRefusal d ≡ 0 → frame b ≡ frame d → CompareIsRight b d
 pub use Rattle.definitions.proofs.Comparisons.{compare-right}
 -- page-right : (b : List ℕ) → bookRefusal b ≡ 0 → PageIsRight b
 pub use Rattle.definitions.proofs.Pages.{page-right}
+-- ways-right : (b : List ℕ) → bookRefusal b ≡ 0 → WaysAreRight b
+pub use Rattle.definitions.proofs.Ways.{ways-right}
 -- states-right : (p : List ℕ) → Accepted p → StatesAreRight (policyMachine p) (bookOf p)
 pub use Rattle.definitions.proofs.BookStates.{states-right}
 -- start-right : (p : List ℕ) → StartIsRight p
@@ -70,3 +73,10 @@ demand3 p q first second = record {
       (built-histories p first) (built-histories q second) (comparison (bookOf p) (bookOf q))
       (compare-right (bookOf p) (bookOf q) (built-passes p first) (built-passes q second) (frames-same p q first second frames) .compared);
 }
+
+-- the way in the book of an accepted policy, over the policy's histories
+pub policy-way : (p : List ℕ) → Accepted p → (r outcome : ℕ) → WayIsRight (policyMachine p) (P.events p) r outcome (way (bookOf p) r outcome)
+policy-way p accepted r outcome =
+    let b = bookOf p in
+    way-along (B.bookMachine b) (policyMachine p) (built-histories p accepted) (P.events p) r outcome (way b r outcome)
+    (subst (λ (E : ℕ). WayIsRight (B.bookMachine b) E r outcome (way b r outcome)) (built-events p accepted) (ways-right b (built-passes p accepted) .ways r outcome))

@@ -19,8 +19,11 @@ pub mod BookSteps
 pub mod TableBytes
 pub mod RowsWritten
 pub mod SearchArray
+pub mod HistoryTellings
+pub mod FirstHistories
 pub mod BlockedHistories
 pub mod Verdicts
+pub mod Ways
 pub mod Comparisons
 pub mod SameHistories
 pub mod BookOf

@@ -1,6 +1,6 @@
 -- The page of a book that passes, built here or not, is right: each line shows the length of the earliest history that leads to its state, dashes exactly where
 -- none does, and what may happen to each request after any that does. It ends in page-right and page-fits.
-use mathlib.Core.Path.{_≡_, refl, sym, ap, _∙_}
+use mathlib.Core.Path.{_≡_, refl, sym, ap, _∙_, subst}
 use mathlib.Core.List.{List, [], append-nil}
 use mathlib.Core.Option.{Option, none, some}
 use Prim.Native.Nat.{ℕ, zero, suc, _+_, _-_, _*_, _≤_, _<_}
@@ -13,17 +13,16 @@ use Rattle.automaton.specs.Machine.{after}
 use Rattle.automaton.specs.Explore.{Reached, firstThat}
 use Rattle.automaton.proofs.Machine.{is-state}
 use Rattle.automaton.proofs.Earliest.{Passes, first-earliest, first-none}
-use Rattle.definitions.specs.Codes.{acceptCode, rejectCode}
 use Rattle.definitions.specs.Book.{events, requests, states, bookMachine}
 use Rattle.definitions.specs.Refusal.{bookRefusal}
 use Rattle.definitions.specs.Checked.{BookPassed}
-use Rattle.definitions.specs.Telling.{toTelling, telling}
+use Rattle.definitions.specs.Telling.{telling}
 use Rattle.definitions.specs.Verdict.{statesReached}
 use Rattle.definitions.specs.Page.{threeColumns, dashes, lengthColumns, letter, pageLine, pageLines, page, pageRefusal}
-use Rattle.definitions.specs.Demands.{accepts, rejects, LeadsTo, StateOf, LineIsRight, PageIsRight}
+use Rattle.definitions.specs.Demands.{tellingAfter, LeadsTo, StateOf, LineIsRight, PageIsRight}
 use Rattle.definitions.proofs.Tests.{judge-zero}
 use Rattle.definitions.proofs.Accepted.{book-passed}
-use Rattle.definitions.proofs.BlockedHistories.{code-at}
+use Rattle.definitions.proofs.HistoryTellings.{telling-at}
 use Rattle.definitions.proofs.RowsWritten.{row-of-concat}
 use Rattle.definitions.proofs.Verdicts.{explored}
 use Rattle.definitions.proofs.PageLines.{columns-last, line-length, line-number, line-shown, line-blanks, line-letter, line-end, lines-count, lines-at, lines-wide, page-length}
@@ -63,10 +62,8 @@ module _ (b : List ℕ) (ok : BookPassed b) (s : ℕ) (some-state : 1 ≤ s) whe
   line-row few r l = line-letter b (statesReached b) s r (omega arith) ∙ rw (lt-ltb r (requests b) l)
 
   -- what a state tells is what may happen after a history that leads to it
-  telling-after : (r : ℕ) (h : History) → LeadsTo (bookMachine b) s h
-      → telling b s r ≡ toTelling (accepts (bookMachine b) (events b) h r) (rejects (bookMachine b) (events b) h r)
-  unfolding telling
-  telling-after r h l = rw (code-at b h (acceptCode (events b) r), code-at b h (rejectCode (events b) r), l)
+  telling-after : (r : ℕ) (h : History) → LeadsTo (bookMachine b) s h → telling b s r ≡ tellingAfter (bookMachine b) (events b) h r
+  telling-after r h l = subst (λ (t : ℕ). telling b t r ≡ tellingAfter (bookMachine b) (events b) h r) l (telling-at b h r)
 
   line-right : LineIsRight b s line
   line-right =

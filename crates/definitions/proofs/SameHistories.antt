@@ -1,14 +1,16 @@
--- Machines with the same histories have the same findings and comparisons: what is right of one is right of the other.
+-- Machines with the same histories have the same findings, comparisons and ways: what is right of one is right of the other.
 use mathlib.Core.Path.{_≡_, sym, _∙_, subst, subst₂, fun-ext}
 use mathlib.Core.Bool.{Bool, true, false}
+use mathlib.Core.Logic.{_↔_}
 use mathlib.Core.List.{List, [], _∷_, _++_}
-use mathlib.Core.Option.{Option}
+use mathlib.Core.Option.{Option, none}
 use Prim.Native.Nat.{ℕ, _<_}
 use Rattle.automaton.specs.History.{History, Earliest}
 use Rattle.automaton.specs.Machine.{Machine, SameHistories, inOne}
 use Rattle.definitions.specs.Codes.{acceptCode, rejectCode}
+use Rattle.definitions.specs.Telling.{toTelling, outcomeOf}
 use Rattle.definitions.specs.Verdict.{Findings}
-use Rattle.definitions.specs.Demands.{Events, FindingIsRight, BlockingIsRight, FindingsAreRight, ComparisonIsRight}
+use Rattle.definitions.specs.Demands.{Events, FindingIsRight, BlockingIsRight, FindingsAreRight, ComparisonIsRight, WayIsRight}
 
 -- the properties of histories that findings are about, over what is possible instead of a machine
 module _ (possible : History → Bool) (E : ℕ) where
@@ -37,4 +39,16 @@ module _ (m m′ k k′ : Machine) (first : SameHistories m m′) (second : Same
   comparison-along right = record {
     same = (λ e h. sym (first h) ∙ right .same .0 e h ∙ second h, λ all. right .same .1 (λ h. first h ∙ all h ∙ sym (second h)));
     differ = λ h e. subst₂ (λ (f g : History → Bool). Earliest (λ k. inOne (f k) (g k) ≡ true) h) (fun-ext first) (fun-ext second) (right .differ h e);
+  }
+
+-- the property that ways are about, over what is possible
+abbrev Outcome : (History → Bool) → ℕ → ℕ → ℕ → History → Type 0
+Outcome possible E r outcome h =
+    (possible h ≡ true) × (outcomeOf (toTelling (possible (h ++ (acceptCode E r ∷ []))) (possible (h ++ (rejectCode E r ∷ [])))) ≡ outcome)
+
+module _ (m k : Machine) (same : SameHistories m k) (E r outcome : ℕ) (shown : Option History) where
+  pub way-along : WayIsRight m E r outcome shown → WayIsRight k E r outcome shown
+  way-along right = record {
+    no-history = subst (λ (f : History → Bool). (shown ≡ none) ↔ ((h : History) → Outcome f E r outcome h → ⊥)) (fun-ext same) (right .no-history);
+    earliest = λ h e. subst (λ (f : History → Bool). Earliest (Outcome f E r outcome) h) (fun-ext same) (right .earliest h e);
   }

@@ -21,12 +21,14 @@ use Rattle.definitions.specs.Codes.{acceptCode, rejectCode}
 use Rattle.definitions.specs.Book.{events, requests, states, bookMachine}
 use Rattle.definitions.specs.Refusal.{bookRefusal}
 use Rattle.definitions.specs.Telling.{acceptable, rejectable, inConflict, answered, unanswered, someRequest}
-use Rattle.definitions.specs.Verdict.{Found, statesReached, lowestRequest, conflict, missing, isBlocked, historyOf, blocked, findings}
-use Rattle.definitions.specs.Demands.{ConflictAfter, MissingAfter, BlockedAfter, FindingIsRight, BlockingIsRight, VerdictIsRight}
+use Rattle.definitions.specs.Verdict.{Found, statesReached, lowestRequest, conflict, missing, isBlocked, blocked, findings}
+use Rattle.definitions.specs.Demands.{ConflictAfter, MissingAfter, BlockedAfter, FindingIsRight, VerdictIsRight}
 use Rattle.definitions.specs.Checked.{BookPassed}
 use Rattle.definitions.proofs.Accepted.{book-passed}
 use Rattle.definitions.proofs.BookSteps.{step-inside}
-use Rattle.definitions.proofs.BlockedHistories.{code-at, unanswered-to, unanswered-from, blocked-to, blocked-from}
+use Rattle.definitions.proofs.BlockedHistories.{unanswered-to, unanswered-from, blocked-to, blocked-from}
+use Rattle.definitions.proofs.HistoryTellings.{code-at}
+use Rattle.definitions.proofs.FirstHistories.{IsFirstHistory, first-history}
 
 -- ---- the first two findings, for any test
 -- h is possible, and the test passes for request r at the state that h leads to
@@ -103,36 +105,6 @@ module _ (b : List ℕ) (found : List Reached) (explored : Explored (bookMachine
         short = λ t q. one-found o refl t q .short;
       }
 
--- ---- blocking
-record BlockingHolds (After : History → Type 0) (b : List ℕ) (finding : Option History) : Type 0 where
-  right : BlockingIsRight After finding
-  short : (h : History) → finding ≡ some h → length h < states b
-
-module _ (b : List ℕ) (ok : BookPassed b) (found : List Reached) (explored : Explored (bookMachine b) found) (few : length found ≤ states b) where
-  abbrev Blocked : History → Type 0
-  Blocked = BlockedAfter (bookMachine b) (events b) (requests b)
-
-  none-blocked : (o : Option Reached) → firstThat (isBlocked b) found ≡ o → historyOf o ≡ none → (h : History) → Blocked h → ⊥
-  none-blocked none e q h a = first-none (isBlocked b) (bookMachine b) found explored e h (blocked-to b ok h a)
-  none-blocked (some u) e q h a = let z : _≡_ {A = ℕ} 0 1 = cc in omega arith
-
-  one-blocked : (o : Option Reached) → firstThat (isBlocked b) found ≡ o → (h : History) → historyOf o ≡ some h → Earliest Blocked h × (length h < states b)
-  one-blocked none e h q = let z : _≡_ {A = ℕ} 0 1 = cc in absurd (omega arith)
-  one-blocked (some u) e h q =
-      let first = first-earliest (isBlocked b) (bookMachine b) found explored u e in
-      let earliest : Earliest Blocked (u .history)
-      = (blocked-from b ok (u .history) (first .earliest .0), λ k a. first .earliest .1 k (blocked-to b ok k a)) in
-      let same : u .history ≡ h = cc in
-      (subst (Earliest Blocked) same earliest, subst (λ (k : History). length k < states b) same (omega (arith, first .short)))
-
-  blocking-holds : BlockingHolds Blocked b (historyOf (firstThat (isBlocked b) found))
-  blocking-holds =
-      let o = firstThat (isBlocked b) found in
-      record {
-        right = record { no-history = none-blocked o refl; earliest = λ h q. one-blocked o refl h q .0 };
-        short = λ h q. one-blocked o refl h q .1;
-      }
-
 -- ---- a verdict
 module _ (b : List ℕ) (h : History) where
   conflict-to : (r : ℕ) → ConflictAfter (bookMachine b) (events b) h r → PassesFor inConflict b h r
@@ -154,7 +126,7 @@ module _ (b : List ℕ) (h : History) where
 
 module _ (b : List ℕ) (ok : BookPassed b) where
   -- at most 127 states are reached, so all of them are
-  reached-all : length (statesReached b) ≤ states b
+  pub reached-all : length (statesReached b) ≤ states b
   reached-all = reached-few (bookMachine b) 127 refl (states b) (step-inside b ok) (ok .layout .header .statesSome)
 
   pub explored : Explored (bookMachine b) (statesReached b)
@@ -170,9 +142,11 @@ module _ (b : List ℕ) (ok : BookPassed b) where
   missing-holds =
       finding-holds b (statesReached b) explored reached-all unanswered (MissingAfter (bookMachine b) (events b)) (missing-to b) (missing-from b)
 
-  blocked-holds : BlockingHolds (BlockedAfter (bookMachine b) (events b) (requests b)) b (blocked b)
+  blocked-holds : IsFirstHistory (BlockedAfter (bookMachine b) (events b) (requests b)) (states b) (blocked b)
   unfolding blocked
-  blocked-holds = blocking-holds b ok (statesReached b) explored reached-all
+  blocked-holds =
+      first-history (bookMachine b) (statesReached b) explored (states b) reached-all (isBlocked b) (BlockedAfter (bookMachine b) (events b) (requests b))
+      (blocked-to b ok) (blocked-from b ok)
 
 -- what a verdict owes for any book that rows 12 to 14 let pass
 pub verdict-right : (b : List ℕ) → bookRefusal b ≡ 0 → VerdictIsRight b
@@ -180,7 +154,11 @@ unfolding findings conflict missing blocked
 verdict-right b passes =
     let ok = book-passed b .0 passes in
     record {
-      findings = record { conflict-right = conflict-holds b ok .right; missing-right = missing-holds b ok .right; blocked-right = blocked-holds b ok .right };
+      findings = record {
+        conflict-right = conflict-holds b ok .right;
+        missing-right = missing-holds b ok .right;
+        blocked-right = record { no-history = blocked-holds b ok .no-history; earliest = blocked-holds b ok .earliest };
+      };
       conflict-short = conflict-holds b ok .short;
       missing-short = missing-holds b ok .short;
       blocked-short = blocked-holds b ok .short;

@@ -11,5 +11,6 @@ pub mod Places
 pub mod Calls
 pub mod Starts
 pub mod Pages
+pub mod Ways
 pub mod Large
 pub mod Table

@@ -1,5 +1,5 @@
--- The owner's demands 2 and 3, the states of the book of a policy, the start, row 11 and the levels, and what verdict, compare and the page owe for any book, as
--- statements about histories. proofs/Demands.antt proves each, and proofs/Calls.antt those over the calls.
+-- The owner's demands 2 and 3, the states of the book of a policy, the start, row 11 and the levels, and what verdict, compare, the page and the way
+-- owe for any book, as statements about histories. proofs/Demands.antt proves each, and proofs/Calls.antt those over the calls.
 -- A reader who believes the definitions and these statements needs to believe nothing else.
 use mathlib.Core.Path.{_≡_}
 use mathlib.Core.Bool.{Bool, true, false}
@@ -21,9 +21,10 @@ use Rattle.definitions.specs.Answer.{Answer, refused, given, written, hi
 use Rattle.definitions.specs.Build.{bookOf, buildAnswer, buildBuffer}
 use Rattle.definitions.specs.Verdict.{Found, Findings, findings, foundHistory, verdictAnswer, Buffers, verdictBuffers, conflict, missing, blocked}
 use Rattle.definitions.specs.Compare.{comparison, compareAnswer, compareBuffer}
-use Rattle.definitions.specs.Telling.{toTelling, telling}
+use Rattle.definitions.specs.Telling.{Telling, toTelling, telling, outcomeOf}
 use Rattle.definitions.specs.Shelf.{blank, newline}
 use Rattle.definitions.specs.Page.{threeColumns, dashes, letter, page}
+use Rattle.definitions.specs.Way.{way, wayAnswer, wayBuffer}
 
 -- ---- what may happen after a history h in a machine m (a policy's or a book's) with E events and Q requests
 
@@ -33,6 +34,10 @@ accepts m E h r = possible m (h ++ (acceptCode E r ∷ []))
 
 abbrev pub rejects : Machine → ℕ → History → ℕ → Bool
 rejects m E h r = possible m (h ++ (rejectCode E r ∷ []))
+
+-- both together
+abbrev pub tellingAfter : Machine → ℕ → History → ℕ → Telling
+tellingAfter m E h r = toTelling (accepts m E h r) (rejects m E h r)
 
 -- "some request may be both accepted and rejected"
 abbrev pub ConflictAfter : Machine → ℕ → History → ℕ → Type 0
@@ -240,7 +245,7 @@ pub record LineIsRight (b : List ℕ) (s : ℕ) (line : List ℕ) : Type 0 where
   pub unreached : (lengthShown line ≡ dashes) ↔ ((h : History) → LeadsTo (B.bookMachine b) s h → ⊥)
   -- "one letter a request": what may happen to it after any history that leads to the state
   pub letters : (r : ℕ) → r < B.requests b → (h : History) → LeadsTo (B.bookMachine b) s h
-      → letterShown line r ≡ letter (toTelling (accepts (B.bookMachine b) (B.events b) h r) (rejects (B.bookMachine b) (B.events b) h r))
+      → letterShown line r ≡ letter (tellingAfter (B.bookMachine b) (B.events b) h r)
   -- and what the state's row says, also where none does
   pub row : (r : ℕ) → r < B.requests b → letterShown line r ≡ letter (telling b s r)
   -- "blanks beyond Q"
@@ -252,3 +257,32 @@ pub record PageIsRight (b : List ℕ) : Type 0 where
   pub room : B.states b * 73 ≤ 9271
   -- "one line a state"
   pub lines : (s : ℕ) → StateOf b s → LineIsRight b s (take 73 (drop ((s - 1) * 73) (page b)))
+
+-- ---- request 3 of document 02: the way to a decision
+
+-- a possible history "after which the request has that outcome"
+abbrev pub OutcomeAfter : Machine → ℕ → ℕ → ℕ → History → Type 0
+OutcomeAfter m E r outcome h = (possible m h ≡ true) × (outcomeOf (tellingAfter m E h r) ≡ outcome)
+
+-- what is shown for request r and an outcome, over all histories possible in a machine m with E events
+pub record WayIsRight (m : Machine) (E r outcome : ℕ) (shown : Option History) : Type 0 where
+  -- "No history must be said exactly when there is none"
+  pub no-history : (shown ≡ none) ↔ ((h : History) → OutcomeAfter m E r outcome h → ⊥)
+  -- "find the earliest possible history after which the request has that outcome"
+  pub earliest : (h : History) → shown ≡ some h → Earliest (OutcomeAfter m E r outcome) h
+
+-- for any book that rows 12 to 14 let pass, built here or not
+pub record WaysAreRight (b : List ℕ) : Type 0 where
+  pub ways : (r outcome : ℕ) → WayIsRight (B.bookMachine b) (B.events b) r outcome (way b r outcome)
+  -- at most n − 1 codes, for which "a lent buffer of at least 128 bytes" is enough
+  pub short : (r outcome : ℕ) (h : History) → way b r outcome ≡ some h → length h < B.states b
+
+-- over the calls: b stands in the buffer after build was called on p, and history is the buffer of the way
+pub record WayInBuffer (p b : List ℕ) (r outcome : ℕ) (history : List ℕ) : Type 0 where
+  pub shown : Option History
+  pub answered : wayAnswer b r outcome history ≡ given shown
+  pub buffer : wayBuffer b r outcome history ≡ written (historyBytes shown) history
+  pub right : WayIsRight (policyMachine p) (P.events p) r outcome shown
+
+abbrev pub WayOfCalls : List ℕ → List ℕ → ℕ → ℕ → List ℕ → Type 0
+WayOfCalls p buffer r outcome history = WayInBuffer p (bookBuilt p buffer) r outcome history

@@ -16,5 +16,6 @@ pub mod Opened
 pub mod Decimal
 pub mod Shelf
 pub mod Page
+pub mod Way
 pub mod Cases
 pub mod Demands

@@ -39,3 +39,10 @@ toTelling false false = none
 
 unfoldable pub telling : List ℕ → ℕ → ℕ → Telling
 telling b s r = toTelling (acceptable b s r) (rejectable b s r)
+
+-- "an outcome (0 none, 1 accept, 2 reject, 3 both)" (request 3 of document 02)
+abbrev pub outcomeOf : Telling → ℕ
+outcomeOf none = 0
+outcomeOf accept = 1
+outcomeOf reject = 2
+outcomeOf both = 3

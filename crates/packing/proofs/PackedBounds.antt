@@ -11,6 +11,7 @@ use Rattle.definitions.specs.Refusal.{policyRefusal, Accepted, bookRefusal}
 use Rattle.definitions.specs.Page.{pageRefusal, pageAnswer}
 use Rattle.definitions.specs.Build.{bookOf, buildRefusal, buildAnswer}
 use Rattle.definitions.specs.Compare.{compareAnswer}
+use Rattle.definitions.specs.Way.{wayAnswer}
 use Rattle.definitions.proofs.Tests.{judge-zero}
 use Rattle.definitions.proofs.Answers.{answer-given}
 use Rattle.definitions.proofs.Written.{length-taken}
@@ -21,12 +22,16 @@ use Rattle.build.specs.declared.Built.the-variants as Built
 use Rattle.page.specs.PageAnswer.{pagedAnswer}
 use Rattle.page.specs.declared.Paged.{Paged}
 use Rattle.page.specs.declared.Paged.the-variants as Paged
+use Rattle.way.specs.ShownAnswer.{shownAnswer}
+use Rattle.way.specs.declared.first.Shown.{Shown}
+use Rattle.way.specs.declared.first.Shown.the-variants as Shown
+use Rattle.way.proofs.WayAnswers.{way-small}
 use Rattle.compare.specs.ComparedAnswer.{comparedAnswer}
 use Rattle.compare.specs.declared.Compared.{Compared}
 use Rattle.compare.specs.declared.Compared.the-variants as Compared
 use Rattle.compare.proofs.ComparedAnswer.{difference-small}
 use Rattle.packing.proofs.RefusalBounds.{book-small}
-use Rattle.packing.specs.PackedBounds.{BuiltWithin, PagedWithin, ComparedWithin}
+use Rattle.packing.specs.PackedBounds.{BuiltWithin, PagedWithin, ShownWithin, ComparedWithin}
 
 -- ---- build
 module _ (p buffer : List ℕ) where
@@ -59,6 +64,16 @@ module _ (b buffer : List ℕ) where
   pub paged-within : (r : Paged) → pagedAnswer r ≡ pageAnswer b buffer → PagedWithin 9271 r
   paged-within (Paged.Refused number) e = tt
   paged-within (Paged.Written n) e = page-given n e
+
+-- ---- way
+pub shown-within : (b : List ℕ) (r outcome : ℕ) (buffer : List ℕ) (shown : Shown) (after : List ℕ) → length after ≡ length buffer
+    → shownAnswer shown after ≡ wayAnswer b r outcome buffer → ShownWithin 128 shown × ShownWithin (length after) shown
+shown-within b r outcome buffer (Shown.Refused number) after same e = (tt, tt)
+shown-within b r outcome buffer Shown.NoHistory after same e = (tt, tt)
+shown-within b r outcome buffer (Shown.After n) after same e =
+    let small = way-small b r outcome buffer (take n after) e in
+    let is = length-taken n after (omega arith) in
+    (omega arith, omega arith)
 
 -- ---- compare
 pub compared-within : (b d buffer : List ℕ) (r : Compared) (after : List ℕ) → length after ≡ length buffer → comparedAnswer r after ≡ compareAnswer b d buffer

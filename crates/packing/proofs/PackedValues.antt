@@ -14,9 +14,10 @@ use Rattle.definitions.specs.Verdict.{Found, conflict, missing, blocked, findin
 use Rattle.definitions.specs.Compare.{comparison, compareRefusal, compareAnswer}
 use Rattle.definitions.specs.Book.{states}
 use Rattle.definitions.specs.Page.{pageRefusal, pageAnswer}
-use Rattle.packing.specs.Packing.{packed, bookLength, pageLength, historyLength, blockedValue, foundValue, findingsValue}
+use Rattle.definitions.specs.Way.{way, wayRefusal, wayAnswer}
+use Rattle.packing.specs.Packing.{packed, bookLength, pageLength, historyLength, lengthOrNone, foundValue, findingsValue}
 use Rattle.verdict.proofs.SmallFindings.{SmallFound, findings-small}
-use Rattle.packing.proofs.RefusalBounds.{build-refusal-small, verdict-refusal-small, page-refusal-small, compare-refusal-small}
+use Rattle.packing.proofs.RefusalBounds.{build-refusal-small, verdict-refusal-small, page-refusal-small, way-refusal-small, compare-refusal-small}
 
 -- ---- the refusal and the value
 pub record Tells (refusal value told : ℕ) : Type 0 where
@@ -40,6 +41,11 @@ pub page-told : (b buffer : List ℕ) → Tells (pageRefusal b buffer) (states b
 unfolding pageAnswer
 page-told b buffer = tells (pageRefusal b buffer) pageLength (states b * 73) (page-refusal-small b buffer)
 
+pub way-told : (b : List ℕ) (r outcome : ℕ) (buffer : List ℕ)
+    → Tells (wayRefusal b r outcome buffer) (lengthOrNone (way b r outcome)) (packed lengthOrNone (wayAnswer b r outcome buffer))
+unfolding wayAnswer
+way-told b r outcome buffer = tells (wayRefusal b r outcome buffer) lengthOrNone (way b r outcome) (way-refusal-small b r outcome buffer)
+
 pub compare-told : (b d buffer : List ℕ) → Tells (compareRefusal b d buffer) (historyLength (comparison b d)) (packed historyLength (compareAnswer b d buffer))
 unfolding compareAnswer
 compare-told b d buffer = tells (compareRefusal b d buffer) historyLength (comparison b d) (compare-refusal-small b d buffer)
@@ -52,7 +58,7 @@ found-below : (finding : Option Found) → ((t : Found) → finding ≡ some t �
 found-below none small = omega arith
 found-below (some t) small = omega (arith, small t refl)
 
-blocked-below : (finding : Option History) → ((h : History) → finding ≡ some h → length h < 127) → blockedValue finding < 2 ^ 8
+blocked-below : (finding : Option History) → ((h : History) → finding ≡ some h → length h < 127) → lengthOrNone finding < 2 ^ 8
 blocked-below none small = omega arith
 blocked-below (some h) small = omega (arith, small h refl)
 
@@ -64,13 +70,13 @@ parts c m k few small = (omega arith, omega arith, omega arith)
 pub record FindingsTold (b : List ℕ) (told : ℕ) : Type 0 where
   pub ofConflict : told % 2 ^ 16 ≡ foundValue (conflict b)
   pub ofMissing : told / 2 ^ 16 % 2 ^ 16 ≡ foundValue (missing b)
-  pub ofBlocked : told / 2 ^ 32 ≡ blockedValue (blocked b)
-  pub byte : blockedValue (blocked b) < 2 ^ 8
+  pub ofBlocked : told / 2 ^ 32 ≡ lengthOrNone (blocked b)
+  pub byte : lengthOrNone (blocked b) < 2 ^ 8
 
 pub findings-told : (b : List ℕ) → bookRefusal b ≡ 0 → FindingsTold b (findingsValue (findings b))
 unfolding findings
 findings-told b passes =
     let small = findings-small b passes in
-    let are = parts (foundValue (conflict b)) (foundValue (missing b)) (blockedValue (blocked b)) (found-below (conflict b) (small .ofConflict))
+    let are = parts (foundValue (conflict b)) (foundValue (missing b)) (lengthOrNone (blocked b)) (found-below (conflict b) (small .ofConflict))
     (found-below (missing b) (small .ofMissing)) in
     record { ofConflict = are .0; ofMissing = are .1; ofBlocked = are .2; byte = blocked-below (blocked b) (small .ofBlocked) }

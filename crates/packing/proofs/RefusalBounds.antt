@@ -5,16 +5,17 @@ use mathlib.Core.List.{List}
 use Prim.Native.Nat.{ℕ, _≤_}
 use native.Mathlib.Nat.{mul-le-mul}
 use native.Mathlib.Omega.{arith}
-use lib.Dec.{leb, eqb}
+use lib.Dec.{leb, ltb, eqb}
 use lib.ListN.{length}
 use Rattle.automaton.specs.Below.{sameList}
 use Rattle.definitions.specs.Answer.{judge, thenJudge}
-use Rattle.definitions.specs.Book.{frame}
+use Rattle.definitions.specs.Book.{frame, requests}
 use Rattle.definitions.specs.Refusal.{fileChecks, fileRefusal, situations, row11, policyRefusal, Accepted, bookChecks, bookRefusal, row15}
 use Rattle.definitions.specs.Build.{bookOf, buildRefusal}
 use Rattle.definitions.specs.Verdict.{verdictRefusal}
 use Rattle.definitions.specs.Compare.{compareRefusal}
 use Rattle.definitions.specs.Page.{pageRefusal}
+use Rattle.definitions.specs.Way.{wayRefusal}
 use Rattle.definitions.proofs.CheckLists.{refusal-most}
 use Rattle.definitions.proofs.Accepted.{book-passed}
 use Rattle.definitions.proofs.Demands.{demand2}
@@ -59,6 +60,14 @@ verdict-refusal-small b x y z =
 pub page-refusal-small : (b buffer : List ℕ) → pageRefusal b buffer ≤ 255
 unfolding pageRefusal
 page-refusal-small b buffer = judge-small 1 (leb 9271 (length buffer)) (bookRefusal b) (omega arith) (book-refusal-small b)
+
+pub way-refusal-small : (b : List ℕ) (r outcome : ℕ) (buffer : List ℕ) → wayRefusal b r outcome buffer ≤ 255
+unfolding wayRefusal
+way-refusal-small b r outcome buffer =
+    let last = judge 16 (ltb r (requests b)) 0 in
+    judge-small 1 (leb 128 (length buffer)) (thenJudge (bookRefusal b) (judge 18 (leb outcome 3) last)) (omega arith)
+    (then-small (bookRefusal b) (judge 18 (leb outcome 3) last) (book-refusal-small b)
+    (judge-small 18 (leb outcome 3) last (omega arith) (judge-small 16 (ltb r (requests b)) 0 (omega arith) (omega arith))))
 
 pub compare-refusal-small : (b d buffer : List ℕ) → compareRefusal b d buffer ≤ 255
 unfolding compareRefusal row15

@@ -23,15 +23,16 @@ pageLength n = n
 abbrev pub historyLength : Option History → ℕ
 historyLength found = length (historyBytes found)
 
--- the values of verdict's findings: 0 for none, else one more than the length of the history, and 256 times the request
-abbrev pub blockedValue : Option History → ℕ
-blockedValue none = 0
-blockedValue (some h) = length h + 1
+-- the value of way, and that of blocked: 0 for no history, else one more than its length
+abbrev pub lengthOrNone : Option History → ℕ
+lengthOrNone none = 0
+lengthOrNone (some h) = length h + 1
 
+-- the value of conflict and of missing: the same, and 256 times the request
 abbrev pub foundValue : Option Found → ℕ
 foundValue none = 0
 foundValue (some t) = length (t .history) + 1 + 256 * t .request
 
 -- the value of verdict: conflict from bit 0, missing from bit 16, blocked from bit 32
 abbrev pub findingsValue : Findings → ℕ
-findingsValue f = foundValue (f .conflict) + 2 ^ 16 * foundValue (f .missing) + 2 ^ 32 * blockedValue (f .blocked)
+findingsValue f = foundValue (f .conflict) + 2 ^ 16 * foundValue (f .missing) + 2 ^ 32 * lengthOrNone (f .blocked)

@@ -7,9 +7,10 @@ ghost use Rattle.build.specs.BuiltAnswer.{builtAnswer};
 ghost use Rattle.page.specs.PageAnswer.{pagedAnswer};
 ghost use Rattle.verdict.specs.VerdictAnswer.{foundOf, blockedOf, judgedAnswer};
 ghost use Rattle.verdict.specs.AnswerBounds.{BlockedWithin, FindingWithin, FindingsWithin, JudgedWithin};
+ghost use Rattle.way.specs.ShownAnswer.{shownAnswer};
 ghost use Rattle.compare.specs.ComparedAnswer.{comparedAnswer};
-ghost use Rattle.packing.specs.Packing.{packed, bookLength, pageLength, blockedValue, foundValue, findingsValue, historyLength};
-ghost use Rattle.packing.specs.PackedBounds.{BuiltWithin, PagedWithin, ComparedWithin};
+ghost use Rattle.packing.specs.Packing.{packed, bookLength, pageLength, lengthOrNone, foundValue, findingsValue, historyLength};
+ghost use Rattle.packing.specs.PackedBounds.{BuiltWithin, PagedWithin, ShownWithin, ComparedWithin};
 use build::Built;
 use compare::Compared;
 use page::Paged;
@@ -17,6 +18,7 @@ use verdict::Blocked;
 use verdict::Finding;
 use verdict::Findings;
 use verdict::Judged;
+use way::Shown;
 
 // The number for what build returns.
 pub fn pack_build(built: Built) -> u64
@@ -40,10 +42,22 @@ pub fn pack_page(paged: Paged) -> u64
     }
 }
 
+// The number for what way returns.
+pub fn pack_way(shown: Shown) -> u64
+    requires { ⌜ ShownWithin 128 shown ⌝ }
+    ensures { λ r. ⌜ ((buffer : List ℕ) → ShownWithin (length buffer) shown → r ≡ packed lengthOrNone (shownAnswer shown buffer)) ⌝ }
+{
+    match shown {
+        Shown::Refused(number) => number as u64,
+        Shown::NoHistory => 0,
+        Shown::After(length) => 256 * (length as u64 + 1),
+    }
+}
+
 // The bits for blocked: 0 for none, else one more than the length of its history.
 fn blocked_value(blocked: Blocked) -> u64
     requires { ⌜ BlockedWithin 128 blocked ⌝ }
-    ensures { λ r. ⌜ ((buffer : List ℕ) → BlockedWithin (length buffer) blocked → r ≡ blockedValue (blockedOf blocked buffer)) ⌝ }
+    ensures { λ r. ⌜ ((buffer : List ℕ) → BlockedWithin (length buffer) blocked → r ≡ lengthOrNone (blockedOf blocked buffer)) ⌝ }
     ensures { λ r. ⌜ r < 2 ^ 8 ⌝ }
 {
     match blocked {

@@ -8,7 +8,7 @@ use native.Mathlib.Decide.{decLt}
 use native.Mathlib.Numerals.{add-one}
 use native.Mathlib.Omega.{arith}
 use lib.Dec.{eqb}
-use lib.ListN.{length, set, replicate, length-set, length-replicate, List·getD-append}
+use lib.ListN.{length, set, length-set, List·getD-append}
 use lib.Seq.{getD-set-same, getD-set-other}
 use borrow.Author.Tests.{eqb-true, eqb-false}
 use Rattle.automaton.specs.Below.{lowestBelow}
@@ -21,7 +21,7 @@ use Rattle.definitions.specs.Book.{states}
 use Rattle.definitions.specs.Checked.{BookPassed}
 use Rattle.definitions.specs.Verdict.{statesReached}
 use Rattle.search.specs.Trail.{firstAt, historyAt}
-use Rattle.search.specs.Found.{bookStates, Holds, Arrays, EmptyArrays}
+use Rattle.search.specs.Found.{bookStates, Holds, Arrays}
 use Rattle.search.proofs.Found.{holds-length, holds-at}
 use Rattle.search.proofs.Trails.{history-empty, parent-low, history-short, step-length}
 use Rattle.search.proofs.FirstFound.{first-none, first-some}
@@ -75,19 +75,6 @@ module _ (order trail : List ℕ) (n : ℕ) (depths : List ℕ) (P : SearchedPla
 -- the places do not change with the depths
 pub places-same : {order trail : List ℕ} {n r s : ℕ} → r ≡ s → SearchedPlaces order trail n r → SearchedPlaces order trail n s
 places-same {order} {trail} {n} e P = rw (← e) P
-
--- ---- room for a search
-pub empty-arrays : (most size : ℕ) (order trail depths : List ℕ) → depths ≡ replicate size 0 → most < size → size ≤ 128 → size ≤ length order → 2 * size ≤ length trail
-    → EmptyArrays most order trail depths
-empty-arrays most size order trail depths e enough few o t =
-    let long : length depths ≡ size = ap length e ∙ length-replicate size 0 in
-    record {
-      enough = omega arith;
-      few = omega arith;
-      roomOrder = omega arith;
-      roomTrail = omega arith;
-      empty = e ∙ ap (λ (n : ℕ). replicate n 0) (sym long);
-    }
 
 -- ---- what a search of a book leaves
 module _ (b : List ℕ) {n : ℕ} {order trail numbers : List ℕ} (A : Arrays (bookStates b) n order trail numbers) (ok : BookPassed b) (enough : states b < length numbers) where

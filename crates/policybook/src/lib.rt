@@ -1,15 +1,17 @@
-// The library for C: build, verdict, compare and page on byte slices, each answer packed into one number.
+// The library for C: build, verdict, compare, page and way on byte slices, each answer packed into one number.
 ghost use mathlib.Core.Path.{_≡_};
 ghost use Rattle.definitions.specs.Build.{buildAnswer, buildBuffer};
 ghost use Rattle.definitions.specs.Verdict.{verdictAnswer, verdictBuffers};
 ghost use Rattle.definitions.specs.Compare.{compareAnswer, compareBuffer};
 ghost use Rattle.definitions.specs.Page.{pageAnswer, pageBuffer};
+ghost use Rattle.definitions.specs.Way.{wayAnswer, wayBuffer};
 ghost use Rattle.verdict.specs.VerdictAnswer.{buffersAfter};
-ghost use Rattle.packing.specs.Packing.{packed, bookLength, findingsValue, historyLength, pageLength};
+ghost use Rattle.packing.specs.Packing.{packed, bookLength, findingsValue, historyLength, pageLength, lengthOrNone};
 use packing::pack_build;
 use packing::pack_compare;
 use packing::pack_page;
 use packing::pack_verdict;
+use packing::pack_way;
 
 // Builds the book of a policy. The value is the book's length. The book goes to the front of the buffer; the bytes after it are unchanged, and on a refusal all of them.
 #[no_mangle]
@@ -54,4 +56,14 @@ pub extern "C" fn policybook_page(book: &[u8], page: &mut [u8]) -> u64
     ensures { λ r. ⌜ now (page .exit) ≡ pageBuffer (now (book .entry)) (now (page .entry)) ⌝ }
 {
     pack_page(page::page(book, page))
+}
+
+// Finds the earliest possible history after which a request has an outcome: 0 none, 1 accept, 2 reject, 3 both. The value is one more than the history's length, and 0
+// where there is no such history. The history goes to the front of the buffer; the bytes after it are unchanged, and on a refusal or on no history all of them.
+#[no_mangle]
+pub extern "C" fn policybook_way(book: &[u8], request: usize, outcome: usize, history: &mut [u8]) -> u64
+    ensures { λ r. ⌜ r ≡ packed lengthOrNone (wayAnswer (now (book .entry)) request outcome (now (history .entry))) ⌝ }
+    ensures { λ r. ⌜ now (history .exit) ≡ wayBuffer (now (book .entry)) request outcome (now (history .entry)) ⌝ }
+{
+    pack_way(way::way(book, request, outcome, history))
 }

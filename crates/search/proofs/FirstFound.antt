@@ -9,6 +9,7 @@ use native.Mathlib.Omega.{arith}
 use Rattle.automaton.specs.Below.{lowestBelow, listBelow}
 use Rattle.automaton.specs.Explore.{Reached, firstThat}
 use Rattle.automaton.proofs.Below.{below-suc, lowest-below}
+use Rattle.automaton.proofs.Explore.{Front}
 use Rattle.definitions.specs.Bytes.{byte}
 use Rattle.search.specs.Found.{reachedAt, foundIn}
 
@@ -23,6 +24,9 @@ module _ (test : ℕ → Bool) where
           → cond b (some x) (firstThat test (xs ++ ys)) ≡ some t
       go true e ih = e
       go false e ih = ih e
+
+  pub first-of-front : {xs more : List Reached} → Front xs more → (t : Reached) → firstThat test xs ≡ some t → firstThat test more ≡ some t
+  first-of-front {xs} front t e = ap (firstThat test) (front .whole) ∙ first-front xs (front .rest) t e
 
   -- and else the second
   first-back : (xs ys : List Reached) → firstThat test xs ≡ none → firstThat test (xs ++ ys) ≡ firstThat test ys

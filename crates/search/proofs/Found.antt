@@ -7,13 +7,13 @@ use native.Mathlib.Decide.{ℕ-discrete}
 use native.Mathlib.Numerals.{add-one}
 use native.Mathlib.Omega.{arith}
 use lib.ListN.{length, getD, set, length-append, length-set}
-use lib.Seq.{getD-set-same, getD-set-other}
+use lib.Seq.{getD-at, getD-set-same, getD-set-other}
 use borrow.Author.Tests.{ne-eqb}
 use Rattle.automaton.specs.History.{History}
 use Rattle.automaton.specs.Machine.{Machine, isState, after}
 use Rattle.automaton.specs.Explore.{Reached, isAt, numberIn, add, unreached, reached}
 use Rattle.automaton.proofs.Below.{length-list-below, getD-list-below, place-other}
-use Rattle.automaton.proofs.Explore.{number-end, stateAt, reachedHistory, sound-apart, reached-sound, reached-leads, reached-few}
+use Rattle.automaton.proofs.Explore.{front-at, front-length, add-keeps, add-front, number-end, stateAt, reachedHistory, sound-apart, reached-sound, reached-leads, reached-few}
 use Rattle.automaton.proofs.Congruence.{list-below-same}
 use Rattle.automaton.proofs.Machine.{is-state, state-is}
 use Rattle.automaton.proofs.Separation.{HasStates, after-within}
@@ -163,3 +163,35 @@ module _ {n : ℕ} {order trail numbers : List ℕ} (S : Arrays (foundIn n order
       roomTrail = rw (length-set, placed-length) (S .roomTrail);
       numbered = λ s l. numbered-new s (rw length-set at l) (ℕ-discrete s x);
     })
+
+-- ---- what noting state x leaves: the places before, and x at the next place where it is new
+-- a list with more than n states has n + 1, with x as the last
+abbrev LastIs : ℕ → ℕ → List Reached → Type 0
+LastIs n x more = n < length more → (length more ≡ suc n) × (stateAt more n ≡ x) × (1 ≤ x)
+
+module _ (n : ℕ) (order trail : List ℕ) (x : ℕ) (h : History) where
+  last-added : LastIs n x (add (foundIn n order trail) x h)
+  last-added = add-keeps (LastIs n x) (foundIn n order trail) h x (λ l. absurd (omega (arith, found-length order trail n))) (λ p _ l. new p)
+    where
+      t : Reached
+      t = record { state = x; history = h }
+
+      new : isState x ≡ true → (length (foundIn n order trail ++ (t ∷ [])) ≡ suc n) × (stateAt (foundIn n order trail ++ (t ∷ [])) n ≡ x) × (1 ≤ x)
+      new p = (
+        omega (arith, length-append (foundIn n order trail) (t ∷ []), found-length order trail n),
+        ap (λ (u : Reached). u .state) (getD-at (foundIn n order trail) t [] unreached n (found-length order trail n)),
+        state-is x p,
+      )
+
+  module _ {r : ℕ} {order′ trail′ numbers′ : List ℕ} (S : Arrays (add (foundIn n order trail) x h) r order′ trail′ numbers′) where
+    pub noted-before : (k : ℕ) → k < n → byte order′ k ≡ byte order k
+    noted-before k l =
+        let front = add-front (foundIn n order trail) x h in
+        let inside : k < length (foundIn n order trail) = omega (arith, found-length order trail n) in
+        ap (λ (t : Reached). t .state)
+        (sym (holds-at (S .holds) k (omega (arith, holds-length (S .holds), front-length front))) ∙ front-at front k inside ∙ found-at order trail n k l)
+
+    pub noted-last : n < r → (r ≡ suc n) × (byte order′ n ≡ x) × (1 ≤ x)
+    noted-last l =
+        let last = last-added (omega (arith, holds-length (S .holds))) in
+        (holds-length (S .holds) ∙ last .0, ap (λ (t : Reached). t .state) (sym (holds-at (S .holds) n l)) ∙ last .1, last .2)

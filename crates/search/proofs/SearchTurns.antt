@@ -4,12 +4,12 @@ use mathlib.Core.List.{List, [], _∷_, _++_}
 use Prim.Native.Nat.{ℕ, zero, suc, _+_, _-_, _*_, _/_, _≤_, _<_}
 use native.Mathlib.Numerals.{add-one}
 use native.Mathlib.Omega.{arith}
-use lib.ListN.{length, getD, set, length-set, getD-replicate}
+use lib.ListN.{length, getD, set, replicate, length-set, length-replicate, getD-replicate}
 use lib.Seq.{getD-set-same, getD-set-other}
 use borrow.Author.Tests.{ne-eqb}
 use Rattle.automaton.specs.Machine.{Machine}
 use Rattle.automaton.specs.Explore.{Reached, add, visit, unreached, startOf, reached}
-use Rattle.automaton.proofs.Explore.{Front, front-at, front-length, visit-front}
+use Rattle.automaton.proofs.Explore.{Front, front-trans, front-at, front-length, visit-front}
 use Rattle.automaton.proofs.Parents.{trail-start}
 use Rattle.automaton.proofs.RemainingSearch.{visit-grows, Remains, remains-begun, remains-turn, remains-front, remains-done}
 use Rattle.definitions.specs.Bytes.{byte}
@@ -85,6 +85,19 @@ module _ {rows : List ℕ} {w : ℕ} {order₀ trail₀ : List ℕ} {n i : ℕ} 
       pub tried-turn : {r : ℕ} {order′ trail′ numbers′ : List ℕ} → Arrays (add (foundIn k order trail) x (historyAt trail i ++ (c ∷ []))) r order′ trail′ numbers′
           → Tried rows w order₀ trail₀ n i (c + 1) r order′ trail′ numbers′
       tried-turn S = record { are = rw next at S; within = omega arith }
+
+-- ---- arrays that are empty
+pub empty-arrays : (most size : ℕ) (order trail numbers : List ℕ) → numbers ≡ replicate size 0 → most < size → size ≤ 128 → size ≤ length order → 2 * size ≤ length trail
+    → EmptyArrays most order trail numbers
+empty-arrays most size order trail numbers e enough few o t =
+    let long : length numbers ≡ size = ap length e ∙ length-replicate size 0 in
+    record {
+      enough = omega arith;
+      few = omega arith;
+      roomOrder = omega arith;
+      roomTrail = omega arith;
+      empty = e ∙ ap (λ (n : ℕ). replicate n 0) (sym long);
+    }
 
 -- ---- the states one after another: i have been visited, n are found, and the rest of the search finds the others
 pub record SearchTurn (rows : List ℕ) (w n i : ℕ) (order trail numbers : List ℕ) : Type 0 where
@@ -166,6 +179,12 @@ module _ (rows : List ℕ) (w : ℕ) (small : SmallTable rows w) {n i : ℕ} {or
       most = state .1;
       room = omega (arith, states-few rows w small, front-length (remains-front (rowsMachine rows w) 127 (statesOf rows w) (suc i) (visitedAt rows w order trail n i) come-on));
     }
+
+    -- what is found after some of the codes stands at the front of all that is reached
+    pub searched-front : (c : ℕ) → c ≤ w → Front (visit (rowsMachine rows w) (reachedAt order trail i) c found) (statesOf rows w)
+    searched-front c l =
+        front-trans (visit-grows (rowsMachine rows w) (reachedAt order trail i) found c w l)
+        (remains-front (rowsMachine rows w) 127 (statesOf rows w) (suc i) (visitedAt rows w order trail n i) come-on)
 
     pub searched-turn : {r : ℕ} {order′ trail′ numbers′ : List ℕ} → Arrays (visitedAt rows w order trail n i) r order′ trail′ numbers′
         → SearchTurn rows w r (i + 1) order′ trail′ numbers′

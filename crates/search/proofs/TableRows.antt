@@ -16,7 +16,7 @@ use Rattle.automaton.proofs.Congruence.{reached-same}
 use Rattle.automaton.proofs.Explore.{stateAt}
 use Rattle.automaton.proofs.Separation.{HasStates}
 use Rattle.definitions.specs.Bytes.{byte}
-use Rattle.definitions.specs.Book.{width, states, bookMachine}
+use Rattle.definitions.specs.Book.{width, states, entry, bookMachine}
 use Rattle.definitions.specs.Checked.{BookPassed}
 use Rattle.definitions.proofs.BookSteps.{step-is-entry, entry-past}
 use Rattle.definitions.specs.Rows.{rowsIn, TableIn}
@@ -66,8 +66,8 @@ module _ (b : List ℕ) (p : BookPassed b) where
   rows-long : length (drop 12 b) ≡ states b * w
   rows-long = rw length-drop (omega (arith, p .layout .exact))
 
-  rows-are : length (drop 12 b) / w ≡ states b
-  rows-are = ap (λ (k : ℕ). k / w) rows-long ∙ mul-div-cancel (states b) (omega (arith, p .layout .header .requestsSome))
+  pub book-count : length (drop 12 b) / w ≡ states b
+  book-count = ap (λ (k : ℕ). k / w) rows-long ∙ mul-div-cancel (states b) (omega (arith, p .layout .header .requestsSome))
 
   book-table : TableIn (drop 12 b) (states b) w
   book-table = record { some = p .layout .header .statesSome; whole = omega (arith, rows-long); entries = λ j l. at j (column-of (states b) w j l) }
@@ -78,8 +78,14 @@ module _ (b : List ℕ) (p : BookPassed b) where
           let e : 12 + i * w + here .column ≡ 12 + j = omega (arith, here .is) in
           rw (getD-drop 12 b j 0, ← e, ← entry-at b i (here .column)) (p .entryMost (suc i) (here .column) (omega arith) (here .inRow) (here .inWidth))
 
-  book-rows : SmallTable (drop 12 b) w
-  book-rows = record { table = rw rows-are book-table; few = rw rows-are (p .layout .header .statesMost); narrow = omega (arith, p .layout .header .widthMost) }
+  pub book-rows : SmallTable (drop 12 b) w
+  book-rows = record { table = rw book-count book-table; few = rw book-count (p .layout .header .statesMost); narrow = omega (arith, p .layout .header .widthMost) }
+
+  -- entry c of the row of state s
+  pub row-entry : (s c : ℕ) → byte (drop 12 b) ((s - 1) * w + c) ≡ entry b s c
+  row-entry s c =
+      let place : 12 + ((s - 1) * w + c) ≡ 12 + (s - 1) * w + c = omega arith in
+      getD-drop 12 b ((s - 1) * w + c) 0 ∙ ap (byte b) place ∙ sym (getD-drop (12 + (s - 1) * w) b c 0)
 
   book-step : (s c : ℕ) → step (rowsMachine (drop 12 b) w) s c ≡ step (bookMachine b) s c
   book-step zero c = refl
@@ -88,14 +94,12 @@ module _ (b : List ℕ) (p : BookPassed b) where
       go : Dec (c < w) → Dec (i < states b) → step (rowsMachine (drop 12 b) w) (suc i) c ≡ step (bookMachine b) (suc i) c
       go (no k) l = step-past (rowsMachine (drop 12 b) w) (suc i) c (omega arith) ∙ sym (step-past (bookMachine b) (suc i) c (omega arith))
       go (yes k) (yes l) =
-          let place : 12 + ((suc i - 1) * w + c) ≡ 12 + (suc i - 1) * w + c = omega arith in
-          rows-step (drop 12 b) w book-rows (suc i) c (omega arith) (omega (arith, rows-are)) k
-          ∙ getD-drop 12 b ((suc i - 1) * w + c) 0 ∙ ap (byte b) place ∙ sym (getD-drop (12 + (suc i - 1) * w) b c 0)
-          ∙ sym (step-is-entry b (suc i) c (omega arith) k)
+          rows-step (drop 12 b) w book-rows (suc i) c (omega arith) (omega (arith, book-count)) k
+          ∙ row-entry (suc i) c ∙ sym (step-is-entry b (suc i) c (omega arith) k)
       go (yes k) (no l) =
-          rows-beyond (drop 12 b) w book-rows i c (omega (arith, rows-are)) ∙ sym (step-is-entry b (suc i) c (omega arith) k ∙ entry-past b p i c (omega arith))
+          rows-beyond (drop 12 b) w book-rows i c (omega (arith, book-count)) ∙ sym (step-is-entry b (suc i) c (omega arith) k ∙ entry-past b p i c (omega arith))
 
-  book-states : statesOf (drop 12 b) w ≡ bookStates b
+  pub book-states : statesOf (drop 12 b) w ≡ bookStates b
   unfolding statesOf bookStates
   book-states = reached-same (rowsMachine (drop 12 b) w) (bookMachine b) refl refl book-step 127
 
@@ -105,7 +109,7 @@ module _ (b : List ℕ) (p : BookPassed b) where
     part-rows = rw (part-is-drop 12 b, e) book-rows
 
     pub part-count : length (take (length b - 12) (drop 12 b)) / v ≡ states b
-    part-count = rw (part-is-drop 12 b, e) rows-are
+    part-count = rw (part-is-drop 12 b, e) book-count
 
     pub part-states : {n : ℕ} {order trail numbers : List ℕ} → Arrays (statesOf (take (length b - 12) (drop 12 b)) v) n order trail numbers
         → Arrays (bookStates b) n order trail numbers

@@ -14,7 +14,7 @@ use crate::trail::put;
 use automaton::wide;
 
 // State 1 is found, with no history.
-fn begin(order: &mut [u8], numbers: &mut [u8])
+pub fn begin(order: &mut [u8], numbers: &mut [u8])
     requires { ⌜ (1 ≤ length (now order)) × (2 ≤ length (now numbers)) ⌝ }
     ensures { λ _. ⌜ (now (order .exit) ≡ set (now (order .entry)) 0 1) × (now (numbers .exit) ≡ set (set (now (numbers .entry)) 0 1) 1 1) ⌝ }
 {
@@ -24,7 +24,7 @@ fn begin(order: &mut [u8], numbers: &mut [u8])
 }
 
 // A state that is possible and new goes to the end of the `n` found, with the place and the code that led to it. Returns how many there are then.
-fn note(
+pub fn note(
     order: &mut [u8],
     trail: &mut [u8],
     numbers: &mut [u8],

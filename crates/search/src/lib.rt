@@ -2,7 +2,9 @@
 mod breadth_first;
 mod trail;
 
+pub use breadth_first::begin;
 pub use breadth_first::explore;
 pub use breadth_first::explore_book;
+pub use breadth_first::note;
 pub use trail::put;
 pub use trail::write_history;

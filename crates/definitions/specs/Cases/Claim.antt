@@ -9,7 +9,7 @@ use Rattle.automaton.specs.Below.{sameList}
 use Rattle.automaton.specs.History.{History}
 use Rattle.definitions.specs.Answer.{Answer, refused, given}
 use Rattle.definitions.specs.Verdict.{Found, Findings}
-use Rattle.definitions.specs.Telling.{Telling, none as untold, accept, reject, both}
+use Rattle.definitions.specs.Telling.{Telling, outcomeOf}
 
 pub data Claim : Type 0 where
   number : ℕ → ℕ → Claim
@@ -62,14 +62,8 @@ abbrev pub sameFindings : Findings → Findings → Bool
 sameFindings x y =
     sameOption sameFound (x .conflict) (y .conflict) && sameOption sameFound (x .missing) (y .missing) && sameOption sameList (x .blocked) (y .blocked)
 
-abbrev pub tellingNumber : Telling → ℕ
-tellingNumber untold = 0
-tellingNumber accept = 1
-tellingNumber reject = 2
-tellingNumber both = 3
-
 abbrev pub sameTelling : Telling → Telling → Bool
-sameTelling x y = eqb (tellingNumber x) (tellingNumber y)
+sameTelling x y = eqb (outcomeOf x) (outcomeOf y)
 
 abbrev pub test : Claim → Bool
 test (number x y) = eqb x y

@@ -1,14 +1,12 @@
 -- Pages of books, whole or some lines of them, and what the call gives and leaves in its buffer. The values were computed by the reference.
 use mathlib.Core.List.{List, [], _∷_, _++_}
-use Prim.Native.Nat.{ℕ, suc, _-_, _*_}
+use Prim.Native.Nat.{ℕ, _-_, _*_}
 use lib.ListN.{length, set, take, drop, replicate}
-use Rattle.automaton.specs.Below.{listBelow}
 use Rattle.definitions.specs.Answer.{refused, given}
-use Rattle.definitions.specs.Book.{concat}
 use Rattle.definitions.specs.Build.{bookOf}
 use Rattle.definitions.specs.Page.{page, pageAnswer, pageBuffer}
 use Rattle.definitions.specs.Cases.Claim.{Claim, number, bytes, builds}
-use Rattle.definitions.specs.Cases.Samples.{policyE, policyG, bookA, lent}
+use Rattle.definitions.specs.Cases.Samples.{policyE, policyG, bookA, foreign, misnumbered, chain, lent}
 use Rattle.definitions.specs.Cases.Several.{wide}
 
 -- a line: the columns up to the second blank, the letters, blanks up to column 72, and the byte 10
@@ -38,37 +36,17 @@ abbrev pageG : List ℕ
 pageG =
     lineWith (32 ∷ 32 ∷ 49 ∷ 32 ∷ 32 ∷ 32 ∷ 48 ∷ 32 ∷ []) (65 ∷ 65 ∷ []) ++ lineWith (32 ∷ 32 ∷ 50 ∷ 32 ∷ 32 ∷ 32 ∷ 49 ∷ 32 ∷ []) (46 ∷ 46 ∷ [])
 
--- a book of one event and three requests, with a state that no history reaches
-abbrev foreign : List ℕ
-foreign =
-    0x42 ∷ 0x4F ∷ 0x4B ∷ 0 ∷ 1 ∷ 1 ∷ 1 ∷ 3 ∷ 0 ∷ 0 ∷ 0 ∷ 4
-    ∷ 2 ∷ 1 ∷ 0 ∷ 0 ∷ 3 ∷ 2 ∷ 2
-    ∷ 2 ∷ 0 ∷ 0 ∷ 0 ∷ 0 ∷ 1 ∷ 0
-    ∷ 1 ∷ 3 ∷ 3 ∷ 0 ∷ 0 ∷ 0 ∷ 0
-    ∷ 4 ∷ 0 ∷ 4 ∷ 4 ∷ 0 ∷ 4 ∷ 4 ∷ []
-
 -- "  1   0 ARB", "  2   1 ..A", "  3   1 B..", "  4 --- RAB"
 abbrev pageForeign : List ℕ
 pageForeign =
     lineWith (32 ∷ 32 ∷ 49 ∷ 32 ∷ 32 ∷ 32 ∷ 48 ∷ 32 ∷ []) (65 ∷ 82 ∷ 66 ∷ []) ++ lineWith (32 ∷ 32 ∷ 50 ∷ 32 ∷ 32 ∷ 32 ∷ 49 ∷ 32 ∷ []) (46 ∷ 46 ∷ 65 ∷ [])
     ++ lineWith (32 ∷ 32 ∷ 51 ∷ 32 ∷ 32 ∷ 32 ∷ 49 ∷ 32 ∷ []) (66 ∷ 46 ∷ 46 ∷ []) ++ lineWith (32 ∷ 32 ∷ 52 ∷ 32 ∷ 45 ∷ 45 ∷ 45 ∷ 32 ∷ []) (82 ∷ 65 ∷ 66 ∷ [])
 
--- a book whose states are not numbered by their earliest histories
-abbrev misnumbered : List ℕ
-misnumbered = 0x42 ∷ 0x4F ∷ 0x4B ∷ 0 ∷ 1 ∷ 0 ∷ 1 ∷ 1 ∷ 0 ∷ 0 ∷ 0 ∷ 3 ∷ 3 ∷ 0 ∷ 0 ∷ 2 ∷ 2 ∷ 0 ∷ []
-
 -- "  1   0 A", "  2   2 R", "  3   1 A"
 abbrev pageMisnumbered : List ℕ
 pageMisnumbered =
     lineWith (32 ∷ 32 ∷ 49 ∷ 32 ∷ 32 ∷ 32 ∷ 48 ∷ 32 ∷ []) (65 ∷ []) ++ lineWith (32 ∷ 32 ∷ 50 ∷ 32 ∷ 32 ∷ 32 ∷ 50 ∷ 32 ∷ []) (82 ∷ [])
     ++ lineWith (32 ∷ 32 ∷ 51 ∷ 32 ∷ 32 ∷ 32 ∷ 49 ∷ 32 ∷ []) (65 ∷ [])
-
--- a book of 101 states in a chain, with one request: accepted on the way, rejected at the end
-abbrev onTheWay : ℕ → List ℕ
-onTheWay i = suc (suc i) ∷ 0 ∷ []
-
-abbrev chain : List ℕ
-chain = 0x42 ∷ 0x4F ∷ 0x4B ∷ 0 ∷ 1 ∷ 0 ∷ 1 ∷ 1 ∷ 0 ∷ 0 ∷ 0 ∷ 101 ∷ concat (listBelow 100 onTheWay) ++ (0 ∷ 101 ∷ [])
 
 -- " 10   9 A", " 11  10 A", "100  99 A", "101 100 R"
 abbrev linesOfChain : List ℕ
@@ -90,7 +68,7 @@ pageCases =
     ∷ bytes (page foreign) pageForeign
     ∷ bytes (page misnumbered) pageMisnumbered
     -- numbers of two and three digits
-    ∷ bytes (linesOf (10 ∷ 11 ∷ 100 ∷ 101 ∷ []) (page chain)) linesOfChain
+    ∷ bytes (linesOf (10 ∷ 11 ∷ 100 ∷ 101 ∷ []) (page (chain 100))) linesOfChain
     -- 64 requests
     ∷ bytes (linesOf (4 ∷ 6 ∷ []) (page (bookOf wide))) linesOfWide
     -- the call: the number of bytes, and the order of its refusals

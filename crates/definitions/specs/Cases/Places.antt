@@ -24,7 +24,7 @@ mixed =
     ∷ 0 ∷ 2 ∷ 1 ∷ 0
     ∷ 0 ∷ 0 ∷ 0 ∷ 2 ∷ []
 
-abbrev bookOfMixed : List ℕ
+abbrev pub bookOfMixed : List ℕ
 bookOfMixed =
     66 ∷ 79 ∷ 75 ∷ 0 ∷ 1 ∷ 3 ∷ 2 ∷ 2 ∷ 1 ∷ 0 ∷ 0 ∷ 10
     ∷ 1 ∷ 2 ∷ 1 ∷ 3 ∷ 0 ∷ 4 ∷ 0

@@ -1,9 +1,11 @@
--- The policies and books of document 01's cases.
+-- The policies and books of document 01's cases, and books that are not built here.
 use mathlib.Core.List.{List, [], _∷_, _++_}
 use mathlib.Core.Option.{none, some}
-use Prim.Native.Nat.{ℕ, _+_}
+use Prim.Native.Nat.{ℕ, suc, _+_}
 use lib.ListN.{set, take, drop, replicate}
+use Rattle.automaton.specs.Below.{listBelow}
 use Rattle.automaton.specs.History.{History}
+use Rattle.definitions.specs.Book.{concat}
 use Rattle.definitions.specs.Verdict.{Found, Findings}
 
 -- a policy of E events, one field, P variables and R rules, from the value count on
@@ -76,6 +78,26 @@ bookA =
     ∷ 1 ∷ 1 ∷ 0 ∷ 2 ∷ 0
     ∷ 1 ∷ 2 ∷ 0 ∷ 3 ∷ 0
     ∷ 1 ∷ 3 ∷ 0 ∷ 0 ∷ 3 ∷ []
+
+-- a book of one event and three requests, with a state that no history reaches
+abbrev pub foreign : List ℕ
+foreign =
+    0x42 ∷ 0x4F ∷ 0x4B ∷ 0 ∷ 1 ∷ 1 ∷ 1 ∷ 3 ∷ 0 ∷ 0 ∷ 0 ∷ 4
+    ∷ 2 ∷ 1 ∷ 0 ∷ 0 ∷ 3 ∷ 2 ∷ 2
+    ∷ 2 ∷ 0 ∷ 0 ∷ 0 ∷ 0 ∷ 1 ∷ 0
+    ∷ 1 ∷ 3 ∷ 3 ∷ 0 ∷ 0 ∷ 0 ∷ 0
+    ∷ 4 ∷ 0 ∷ 4 ∷ 4 ∷ 0 ∷ 4 ∷ 4 ∷ []
+
+-- a book whose states are not numbered by their earliest histories
+abbrev pub misnumbered : List ℕ
+misnumbered = 0x42 ∷ 0x4F ∷ 0x4B ∷ 0 ∷ 1 ∷ 0 ∷ 1 ∷ 1 ∷ 0 ∷ 0 ∷ 0 ∷ 3 ∷ 3 ∷ 0 ∷ 0 ∷ 2 ∷ 2 ∷ 0 ∷ []
+
+-- a book of n + 1 states in a chain, with one request: accepted on the way, rejected at the end
+abbrev onTheWay : ℕ → List ℕ
+onTheWay i = suc (suc i) ∷ 0 ∷ []
+
+abbrev pub chain : ℕ → List ℕ
+chain n = 0x42 ∷ 0x4F ∷ 0x4B ∷ 0 ∷ 1 ∷ 0 ∷ 1 ∷ 1 ∷ 0 ∷ 0 ∷ 0 ∷ suc n ∷ concat (listBelow n onTheWay) ++ (0 ∷ suc n ∷ [])
 
 -- a borrowed buffer of n bytes
 abbrev pub lent : ℕ → List ℕ

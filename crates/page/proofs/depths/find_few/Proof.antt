@@ -1,6 +1,6 @@
 -- `find_few` meets its contract: 16 places are enough for under 16 states.
 use native.Mathlib.Omega.{arith}
-use Rattle.page.proofs.NotedDepths.{empty-arrays}
+use Rattle.search.proofs.SearchTurns.{empty-arrays}
 use borrow.Author.Needs.{needs}
 use Rattle.page.proofs.depths.find_few.Statement.{statement}
 use Rattle.page.proofs.depths.find_few.Tie as tie

@@ -1,6 +1,6 @@
 -- `find_many` meets its contract: there is room for every book.
 use native.Mathlib.Omega.{arith}
-use Rattle.page.proofs.NotedDepths.{empty-arrays}
+use Rattle.search.proofs.SearchTurns.{empty-arrays}
 use borrow.Author.Needs.{needs}
 use Rattle.page.proofs.depths.find_many.Statement.{statement}
 use Rattle.page.proofs.depths.find_many.Tie as tie

@@ -1,0 +1,5 @@
+-- Laws that belong to no one function.
+pub mod VisitTurns
+pub mod FirstStates
+pub mod ShownWays
+pub mod WayAnswers

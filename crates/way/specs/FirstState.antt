@@ -1,0 +1,56 @@
+-- The search for the first state with a decision: what a visit leaves that ends where such a state is found, and what the search leaves.
+use mathlib.Core.Path.{_≡_}
+use mathlib.Core.Bool.{Bool, true, false}
+use mathlib.Core.List.{List}
+use mathlib.Core.Option.{none, some}
+use Prim.Native.Nat.{ℕ, suc, _≤_, _<_}
+use lib.ListN.{drop}
+use Rattle.automaton.specs.Explore.{Reached, visit, firstThat}
+use Rattle.automaton.specs.Parents.{EarlierParents}
+use Rattle.definitions.specs.Bytes.{byte}
+use Rattle.definitions.specs.Book.{width, requests, states}
+use Rattle.definitions.specs.Checked.{BookPassed}
+use Rattle.definitions.specs.Verdict.{statesReached}
+use Rattle.definitions.specs.Way.{hasOutcome}
+use Rattle.search.specs.Trail.{firstAt}
+use Rattle.search.specs.Found.{rowsMachine, reachedAt, foundIn, Arrays}
+use Rattle.way.specs.declared.decision.Decision.{Decision}
+
+-- the rows of a book
+abbrev pub rowsOf : List ℕ → List ℕ
+rowsOf b = drop 12 b
+
+-- a decision is sought in a book whose width is given
+pub record Sought (b : List ℕ) (w : ℕ) (d : Decision) : Type 0 where
+  pub passed : BookPassed b
+  pub wide : w ≡ width b
+  pub below : d .request < requests b
+
+-- a state has the decision
+abbrev pub isSought : List ℕ → Decision → ℕ → Bool
+isSought b d s = hasOutcome b (d .request) (d .outcome) s
+
+-- none of the states at the first n places has it
+abbrev pub NoneBelow : List ℕ → Decision → List ℕ → ℕ → Type 0
+NoneBelow b d order n = (k : ℕ) → k < n → isSought b d (byte order k) ≡ false
+
+-- the first at these places that has it is the last of them
+pub record OnlyLast (b : List ℕ) (d : Decision) (order : List ℕ) (n : ℕ) : Type 0 where
+  pub last : ℕ
+  pub is : n ≡ suc last
+  pub has : isSought b d (byte order last) ≡ true
+  pub before : NoneBelow b d order last
+
+-- the codes below some code have been tried from the state at place i of n, and k states are found: all codes, and no state has the decision, or the last of them has it
+pub record VisitedFor (b : List ℕ) (d : Decision) (order₀ trail₀ : List ℕ) (n i k : ℕ) (hit : Bool) (order trail numbers : List ℕ) : Type 0 where
+  pub tried : ℕ
+  pub within : tried ≤ width b
+  pub are : Arrays (visit (rowsMachine (rowsOf b) (width b)) (reachedAt order₀ trail₀ i) tried (foundIn n order₀ trail₀)) k order trail numbers
+  pub missed : hit ≡ false → (tried ≡ width b) × NoneBelow b d order k
+  pub found : hit ≡ true → OnlyLast b d order k
+
+-- the search is over: no state that a history reaches has the decision, or the first that has it stands at the place with this number, counted from 1
+pub record FirstState (b : List ℕ) (d : Decision) (number : ℕ) (order trail : List ℕ) : Type 0 where
+  pub nowhere : number ≡ 0 → firstThat (isSought b d) (statesReached b) ≡ none
+  pub somewhere : (k : ℕ) → number ≡ suc k → (firstThat (isSought b d) (statesReached b) ≡ some (reachedAt order trail k))
+      × (k < states b) × EarlierParents (suc k) (firstAt trail)

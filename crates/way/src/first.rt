@@ -1,0 +1,149 @@
+// The first state of a book with a decision, in the order of earliest histories: a breadth-first search that ends where such a state is found.
+ghost use mathlib.Core.Path.{_≡_};
+ghost use mathlib.Core.Bool.{false, _&&_};
+ghost use Prim.Native.Nat.{_≤_, _<_};
+ghost use lib.Dec.{ltb};
+ghost use lib.ListN.{length};
+ghost use Rattle.definitions.specs.Book as Book;
+ghost use Rattle.search.specs.Found.{foundIn, Arrays, EmptyArrays, CanVisit};
+ghost use Rattle.way.specs.FirstState.{rowsOf, Sought, isSought, NoneBelow, VisitedFor, FirstState};
+ghost use Rattle.way.specs.ShownAnswer.{Shows};
+use crate::decision::Decision;
+use crate::decision::has_outcome;
+use automaton::wide;
+use book::entry;
+use search::begin;
+use search::note;
+use search::write_history;
+
+// What a way is: the number of the row that refuses the call, that no history leads there, or how many codes the earliest has.
+pub enum Shown {
+    Refused(usize),
+    NoHistory,
+    After(usize),
+}
+
+// How many states are found, and whether the last of them has the decision.
+struct Visited {
+    found: usize,
+    hit: bool,
+}
+
+// Whether a code led to a new state that has the decision: `k` states were found before, and `more` are now.
+fn is_hit(book: &[u8], width: usize, decision: Decision, k: usize, more: usize, there: usize) -> bool
+    requires { ⌜ Sought (now book) width decision × (k < more → (1 ≤ there) × (there ≤ Book.states (now book))) ⌝ }
+    ensures { λ r. ⌜ r ≡ (ltb k more && isSought (now (book .entry)) decision there) ⌝ }
+{
+    if more <= k {
+        return false;
+    }
+    has_outcome(book, width, there, decision)
+}
+
+// The codes are tried, in order, from the state at place `i` of the `n` found, until one leads to a new state that has the decision.
+fn visit_for(
+    book: &[u8],
+    width: usize,
+    decision: Decision,
+    order: &mut [u8],
+    trail: &mut [u8],
+    numbers: &mut [u8],
+    n: usize,
+    i: usize,
+) -> Visited
+    requires { ⌜ Sought (now book) width decision × NoneBelow (now book) decision (now order) n ⌝ }
+    requires { ⌜ CanVisit (rowsOf (now book)) (Book.width (now book)) (now order) (now trail) n i ⌝ }
+    requires { ⌜ Arrays (foundIn n (now order) (now trail)) n (now order) (now trail) (now numbers) × (Book.states (now book) < length (now numbers)) ⌝ }
+    ensures { λ r. ⌜ VisitedFor (now (book .entry)) decision (now (order .entry)) (now (trail .entry)) n i
+        (r .found) (r .hit) (now (order .exit)) (now (trail .exit)) (now (numbers .exit)) ⌝ }
+{
+    let state = wide(order[i]);
+    let mut k = n;
+    let mut c = 0;
+    while c < width {
+        let there = entry(book, width, state, c);
+        let more = note(order, trail, numbers, k, there, i, c);
+        if is_hit(book, width, decision, k, more, there) {
+            return Visited {
+                found: more,
+                hit: true,
+            };
+        }
+        k = more;
+        c += 1;
+    }
+    Visited {
+        found: k,
+        hit: false,
+    }
+}
+
+// The number, counted from 1, of the first state found that has the decision, which the start has not; 0 if no state has it.
+fn first_state(
+    book: &[u8],
+    width: usize,
+    decision: Decision,
+    order: &mut [u8],
+    trail: &mut [u8],
+    numbers: &mut [u8],
+) -> usize
+    requires { ⌜ Sought (now book) width decision × (isSought (now book) decision 1 ≡ false) ⌝ }
+    requires { ⌜ EmptyArrays (Book.states (now book)) (now order) (now trail) (now numbers) ⌝ }
+    ensures { λ r. ⌜ FirstState (now (book .entry)) decision r (now (order .exit)) (now (trail .exit)) ⌝ }
+{
+    begin(order, numbers);
+    let mut n = 1;
+    let mut i = 0;
+    while i < n {
+        let visited = visit_for(book, width, decision, order, trail, numbers, n, i);
+        n = visited.found;
+        if visited.hit {
+            return n;
+        }
+        i += 1;
+    }
+    0
+}
+
+// The way, where the start has not the decision; `order`, `trail` and `numbers` are room for the search.
+fn show_in(
+    book: &[u8],
+    width: usize,
+    decision: Decision,
+    order: &mut [u8],
+    trail: &mut [u8],
+    numbers: &mut [u8],
+    history: &mut [u8],
+) -> Shown
+    requires { ⌜ Sought (now book) width decision × (isSought (now book) decision 1 ≡ false) × (128 ≤ length (now history)) ⌝ }
+    requires { ⌜ EmptyArrays (Book.states (now book)) (now order) (now trail) (now numbers) ⌝ }
+    ensures { λ r. ⌜ Shows (now (book .entry)) decision r (now (history .entry)) (now (history .exit)) ⌝ }
+{
+    let number = first_state(book, width, decision, order, trail, numbers);
+    if number == 0 {
+        return Shown::NoHistory;
+    }
+    Shown::After(write_history(trail, number - 1, history))
+}
+
+// The same with room for few states, which is sooner cleared.
+pub fn show_few(book: &[u8], width: usize, decision: Decision, history: &mut [u8]) -> Shown
+    requires { ⌜ Sought (now book) width decision × (isSought (now book) decision 1 ≡ false) × (128 ≤ length (now history)) × (Book.states (now book) < 16) ⌝ }
+    ensures { λ r. ⌜ Shows (now (book .entry)) decision r (now (history .entry)) (now (history .exit)) ⌝ }
+{
+    let mut order = [0u8; 16];
+    let mut trail = [0u8; 32];
+    let mut numbers = [0u8; 16];
+    show_in(book, width, decision, &mut order, &mut trail, &mut numbers, history)
+}
+
+// The same with room for every book.
+pub fn show_many(book: &[u8], width: usize, decision: Decision, history: &mut [u8]) -> Shown
+    requires { ⌜ Sought (now book) width decision × (isSought (now book) decision 1 ≡ false) × (128 ≤ length (now history)) ⌝ }
+    ensures { λ r. ⌜ Shows (now (book .entry)) decision r (now (history .entry)) (now (history .exit)) ⌝ }
+{
+    let mut order = [0u8; 128];
+    let mut trail = [0u8; 256];
+    let mut numbers = [0u8; 128];
+    show_in(book, width, decision, &mut order, &mut trail, &mut numbers, history)
+}
