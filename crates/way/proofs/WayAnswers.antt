@@ -6,11 +6,10 @@ use Prim.Native.Nat.{ℕ, _≤_, _<_}
 use native.Mathlib.Omega.{arith}
 use lib.Dec.{leb, ltb}
 use lib.ListN.{length}
-use borrow.Author.Tests.{le-leb, lt-leb, leb-true, lt-ltb, le-ltb, ltb-true, ne-eqb}
+use borrow.Author.Tests.{le-leb, lt-leb, leb-true, lt-ltb, le-ltb, ne-eqb}
 use Rattle.automaton.specs.History.{History}
 use Rattle.definitions.specs.Answer.{Answer, refused, given, written, historyBytes, judge, thenJudge}
 use Rattle.definitions.specs.Book.{requests}
-use Rattle.definitions.specs.Checked.{BookPassed}
 use Rattle.definitions.specs.Refusal.{bookRefusal}
 use Rattle.definitions.specs.Way.{way, wayRefusal, wayAnswer, wayBuffer}
 use Rattle.definitions.proofs.Accepted.{book-passed}
@@ -55,26 +54,18 @@ module _ (b : List ℕ) (r outcome : ℕ) (buffer : List ℕ) where
     way-given z answer after ea eb =
         rw (← is) (ea ∙ given-answer number z (way b r outcome), eb ∙ sym (given-buffer number (historyBytes (way b r outcome)) buffer z))
 
--- ---- no row refuses the call
-pub record NotRefused (b : List ℕ) (r : ℕ) (buffer : List ℕ) : Type 0 where
-  pub long : 128 ≤ length buffer
-  pub book : BookPassed b
-  pub below : r < requests b
-
-pub not-refused : (b : List ℕ) (r outcome : ℕ) (buffer : List ℕ) → wayRefusal b r outcome buffer ≡ 0 → NotRefused b r buffer
+-- ---- a history that is given is short, and its buffer is not
+not-refused : (b : List ℕ) (r outcome : ℕ) (buffer : List ℕ) → wayRefusal b r outcome buffer ≡ 0 → (128 ≤ length buffer) × (bookRefusal b ≡ 0)
 unfolding wayRefusal
 not-refused b r outcome buffer e =
-    let one = judge-zero 0 (leb 128 (length buffer)) (thenJudge (bookRefusal b) (judge 18 (leb outcome 3) (judge 16 (ltb r (requests b)) 0))) .0 e in
-    let two = then-judge-zero (bookRefusal b) (judge 18 (leb outcome 3) (judge 16 (ltb r (requests b)) 0)) .0 (one .1) in
-    let three = judge-zero 17 (leb outcome 3) (judge 16 (ltb r (requests b)) 0) .0 (two .1) in
-    let four = judge-zero 15 (ltb r (requests b)) 0 .0 (three .1) in
-    record { long = leb-true 128 (length buffer) (one .0); book = book-passed b .0 (two .0); below = ltb-true r (requests b) (four .0) }
+    let later = judge 18 (leb outcome 3) (judge 16 (ltb r (requests b)) 0) in
+    let one = judge-zero 0 (leb 128 (length buffer)) (thenJudge (bookRefusal b) later) .0 e in
+    (leb-true 128 (length buffer) (one .0), then-judge-zero (bookRefusal b) later .0 (one .1) .0)
 
--- a history that is given is short, and its buffer is not
 pub way-small : (b : List ℕ) (r outcome : ℕ) (buffer : List ℕ) (h : History) → given (some h) ≡ wayAnswer b r outcome buffer → (length h < 127) × (128 ≤ length buffer)
 unfolding wayAnswer
 way-small b r outcome buffer h e =
     let is = answer-given (wayRefusal b r outcome buffer) (some h) (way b r outcome) e in
     let passes = not-refused b r outcome buffer (is .0) in
-    let short = ways-right b (book-passed b .1 (passes .book)) .short r outcome h (sym (is .1)) in
-    (omega (arith, short, passes .book .layout .header .statesMost), passes .long)
+    let short = ways-right b (passes .1) .short r outcome h (sym (is .1)) in
+    (omega (arith, short, book-passed b .0 (passes .1) .layout .header .statesMost), passes .0)

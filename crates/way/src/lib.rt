@@ -1,7 +1,10 @@
 // A way to a decision: the earliest possible history after which a request has an outcome. Rows 1 (the buffer), 18 and 16 are decided here; stated in
 // definitions/specs/Way.antt.
 ghost use mathlib.Core.Path.{_≡_};
-ghost use Rattle.definitions.specs.Way.{wayRefusal, wayAnswer, wayBuffer};
+ghost use Prim.Native.Nat.{_≤_};
+ghost use lib.ListN.{length};
+ghost use Rattle.definitions.specs.Way.{wayAnswer, wayBuffer};
+ghost use Rattle.way.specs.FirstState.{Sought};
 ghost use Rattle.way.specs.ShownAnswer.{shownAnswer, Shows};
 
 mod decision;
@@ -23,44 +26,33 @@ pub fn way(book: &[u8], request: usize, outcome: usize, history: &mut [u8]) -> S
     ensures { λ r. ⌜ shownAnswer r (now (history .exit)) ≡ wayAnswer (now (book .entry)) request outcome (now (history .entry)) ⌝ }
     ensures { λ _. ⌜ now (history .exit) ≡ wayBuffer (now (book .entry)) request outcome (now (history .entry)) ⌝ }
 {
-    let number = refused_by(book, request, outcome, history);
-    if number != 0 {
-        return Shown::Refused(number);
-    }
-    show(book, Decision { request, outcome }, history)
-}
-
-// The number of the first row that refuses the call, 0 if none does: row 1, rows 12 to 14, 18, 16.
-fn refused_by(book: &[u8], request: usize, outcome: usize, history: &[u8]) -> usize
-    ensures { λ r. ⌜ r ≡ wayRefusal (now (book .entry)) request outcome (now (history .entry)) ⌝ }
-{
     if history.len() < 128 {
-        return 1;
+        return Shown::Refused(1);
     }
     let number = refusal(book);
     if number != 0 {
-        return number;
+        return Shown::Refused(number);
     }
     if 3 < outcome {
-        return 18;
+        return Shown::Refused(18);
     }
-    if requests(book) <= request {
-        return 16;
+    let q = requests(book);
+    if q <= request {
+        return Shown::Refused(16);
     }
-    0
+    show(book, width_from(book, q), Decision { request, outcome }, history)
 }
 
 // A call that no row refuses. Where the start has the outcome there is nothing to search.
-fn show(book: &[u8], decision: Decision, history: &mut [u8]) -> Shown
-    requires { ⌜ wayRefusal (now book) (decision .request) (decision .outcome) (now history) ≡ 0 ⌝ }
+fn show(book: &[u8], width: usize, decision: Decision, history: &mut [u8]) -> Shown
+    requires { ⌜ Sought (now book) width decision × (128 ≤ length (now history)) ⌝ }
     ensures { λ r. ⌜ Shows (now (book .entry)) decision r (now (history .entry)) (now (history .exit)) ⌝ }
 {
-    let w = width_from(book, requests(book));
-    if has_outcome(book, w, 1, decision) {
+    if has_outcome(book, width, 1, decision) {
         return Shown::After(0);
     }
     if states(book) < 16 {
-        return show_few(book, w, decision, history);
+        return show_few(book, width, decision, history);
     }
-    show_many(book, w, decision, history)
+    show_many(book, width, decision, history)
 }

@@ -1,34 +1,72 @@
--- `way` meets its contract: the number of the row that refuses the call, or the way.
+-- `way` meets its contract: each refusal is that of the first row that fits.
+use mathlib.Core.Path.{_≡_, refl, sym, _∙_}
+use native.Mathlib.Omega.{arith}
 use denote.Ref.{now}
 use borrow.Author.Needs.{needs}
-use Rattle.way.proofs.WayAnswers.{way-refused, way-given}
+use Rattle.definitions.specs.Checked.{BookPassed}
+use Rattle.definitions.proofs.Accepted.{book-passed}
+use Rattle.way.proofs.WayAnswers.{refused-by-1, refused-by-book, refused-by-18, refused-by-16, refused-by-none, way-refused, way-given}
 use Rattle.way.proofs.way.Statement.{statement}
 use Rattle.way.proofs.way.Tie as tie
 
-refused-by-requires : tie.Need-refused-by-requires
-refused-by-requires c κs = search needs
+passes : (c : tie.Else2) → BookPassed (now (c .before .before .before .before .before .args .book))
+passes c = book-passed _ .0 (sym (c .before .refusal .ensures) ∙ c .if2 .left)
+
+returns : tie.Need-returns
+returns c =
+    let a = c .before .before .before .args in
+    way-refused (now (a .book)) (a .request) (a .outcome) (now (a .history)) 1 (refused-by-1 (now (a .book)) (a .request) (a .outcome) (now (a .history)) (c .if1 .taken)) (λ e. omega arith)
+
+refusal-requires : tie.Need-refusal-requires
+refusal-requires c κs = search needs
+
+returns-2 : tie.Need-returns-2
+returns-2 c =
+    let a = c .before .before .before .before .before .args in
+    way-refused (now (a .book)) (a .request) (a .outcome) (now (a .history)) _ (refused-by-book (now (a .book)) (a .request) (a .outcome) (now (a .history)) (c .before .before .if1 .left) _ (c .before .refusal .ensures) (c .if2 .taken)) (c .if2 .taken)
+
+returns-3 : tie.Need-returns-3
+returns-3 c =
+    let a = c .before .before .before .before .before .before .args in
+    way-refused (now (a .book)) (a .request) (a .outcome) (now (a .history)) 18 (refused-by-18 (now (a .book)) (a .request) (a .outcome) (now (a .history)) (c .before .before .before .if1 .left) _ (c .before .before .refusal .ensures) (c .before .if2 .left) (c .if3 .taken)) (λ e. omega arith)
+
+requests-requires : tie.Need-requests-requires
+requests-requires c κs = let p = passes (c .before) in (p .long, p .layout .header .fieldsMost)
+
+returns-4 : tie.Need-returns-4
+returns-4 c =
+    let a = c .before .before .before .before .before .before .before .before .args in
+    way-refused (now (a .book)) (a .request) (a .outcome) (now (a .history)) 16
+    (refused-by-16 (now (a .book)) (a .request) (a .outcome) (now (a .history)) (c .before .before .before .before .before .if1 .left) _ (c .before .before .before .before .refusal .ensures) (c .before .before .before .if2 .left) (c .before .before .if3 .left) _ (c .before .requests .ensures) (c .if4 .taken)) (λ e. omega arith)
+
+width-from-requires : tie.Need-width-from-requires
+width-from-requires c κs = let p = passes (c .before .before .before) in (p .long, p .layout .header, c .before .requests .ensures)
+
+show-requires : tie.Need-show-requires
+show-requires c κs =
+    (record { passed = passes (c .before .before .before .before .before); wide = c .before .width-from .ensures; below = omega (arith, c .before .before .if4 .left, c .before .before .before .requests .ensures) }, c .before .before .before .before .before .before .before .if1 .left)
 
 same-length : tie.Need-same-length
 same-length c = search needs
 
-returns : tie.Need-returns
-returns c =
-    let a = c .before .before .before .before .before .args in
-    way-refused (now (a .book)) (a .request) (a .outcome) (now (a .history)) _ (c .before .refused-by .ensures) (c .if1 .taken)
-
-show-requires : tie.Need-show-requires
-show-requires c κs = search needs
-
-same-length-2 : tie.Need-same-length-2
-same-length-2 c = search needs
-
-returns-2 : tie.Need-returns-2
-returns-2 c =
-    let a = c .before .before .before .before .before .before .before .before .before .args in
+returns-5 : tie.Need-returns-5
+returns-5 c =
+    let a = c .before .before .before .before .before .before .before .before .before .before .before .before .before .args in
     let e = c .before .before .show .ensures in
-    way-given (now (a .book)) (a .request) (a .outcome) (now (a .history)) _ (c .before .before .before .before .before .refused-by .ensures) (c .before .before .before .before .if1 .left) _ _ (e .0) (e .1)
+    way-given (now (a .book)) (a .request) (a .outcome) (now (a .history)) 0
+    (refused-by-none (now (a .book)) (a .request) (a .outcome) (now (a .history)) (c .before .before .before .before .before .before .before .before .before .before .if1 .left) _ (c .before .before .before .before .before .before .before .before .before .refusal .ensures) (c .before .before .before .before .before .before .before .before .if2 .left) (c .before .before .before .before .before .before .before .if3 .left) _ (c .before .before .before .before .before .before .requests .ensures) (c .before .before .before .before .before .if4 .left)) refl _ _ (e .0) (e .1)
 
 pub way-spec : {M : Type 1} → statement M
 way-spec =
     tie.close
-    (tie.spec refused-by-requires same-length returns show-requires same-length-2 returns-2)
+    (tie.spec
+    returns
+    refusal-requires
+    returns-2
+    returns-3
+    requests-requires
+    returns-4
+    width-from-requires
+    show-requires
+    same-length
+    returns-5)
