@@ -1,6 +1,6 @@
 -- The tests of rows 12 and 13, as the code comes to their ends.
 use mathlib.Core.Path.{_≡_, refl, ap, _∙_}
-use mathlib.Core.Bool.{Bool, true, false, _&&_}
+use mathlib.Core.Bool.{Bool, true, false, cond, _&&_}
 use mathlib.Core.List.{List, [], _∷_}
 use Prim.Native.Nat.{ℕ, _+_, _*_, _≤_}
 use native.Mathlib.Nat.{mul-le-mul}
@@ -12,9 +12,11 @@ use Rattle.automaton.specs.Below.{allBelow}
 use Rattle.automaton.proofs.Below.{and-true}
 use Rattle.definitions.specs.Bytes.{byte, hasMark, within}
 use Rattle.definitions.specs.Book.{events, fields, requests, width, states}
-use Rattle.definitions.specs.Refusal.{isMarked, countHolds, headerHolds}
+use Rattle.definitions.specs.Refusal.{isMarked, countHolds, layoutHolds}
 use Rattle.definitions.specs.Checked.{BookHeader}
 use Rattle.definitions.proofs.Tests.{both-true}
+use Rattle.definitions.proofs.Accepted.{layout-true}
+use Rattle.bookcheck.specs.Layout.{headerRequests}
 use Rattle.bookcheck.proofs.Entries.{same-truth}
 
 -- ---- row 12: the first five bytes
@@ -42,16 +44,36 @@ module _ (b : List ℕ) where
   pub marked-is : 12 ≤ length b → allBelow 5 (asStart b) ≡ isMarked b
   marked-is l = rw (le-leb 12 (length b) l) (both-same (hasMark 0x42 0x4F 0x4B b) (eqb (byte b 3) 0) (eqb (byte b 4) 1) _ (version (byte b 3) (byte b 4)))
 
-  -- ---- row 13: its last parts, n, E and Q being as the code has read them
-  pub header-last : (n e q : ℕ) (t : Bool) → n ≡ states b → e ≡ events b → q ≡ requests b → e ≤ 8 → within 1 (fields b) 4 ≡ true
-      → allBelow 4 (countHolds b) ≡ true → q ≤ 64 → t ≡ within 1 n 127 → t ≡ headerHolds b
-  header-last n e q t hn he hq few present counts small ht =
-      rw (← hn, ← he, ← hq, le-leb e 8 few, present, counts, le-leb q 64 small) ht
+  -- ---- row 13: all parts of the header hold, n, E and Q being as the code has read them
+  pub header-last : (n e q : ℕ) → n ≡ states b → e ≡ events b → q ≡ requests b → e ≤ 8 → within 1 (fields b) 4 ≡ true
+      → allBelow 4 (countHolds b) ≡ true → within 1 n 127 ≡ true → q ≤ 64 → q ≡ headerRequests b
+  header-last n e q hn he hq few present counts some small =
+      rw (← hn, ← he, ← hq, le-leb e 8 few, present, counts, le-leb q 64 small, some)
 
-  module _ (n e q : ℕ) (hn : n ≡ states b) (he : e ≡ events b) (hq : q ≡ requests b) where
+  -- w is at least 1
+  pub layout-wide : layoutHolds b ≡ true → 1 ≤ width b
+  layout-wide e = let some = layout-true b e .header .requestsSome in omega arith
+
+  module _ (n w : ℕ) (hn : n ≡ states b) (hw : w ≡ width b) where
     -- n × w is small
-    pub size-fits : BookHeader b → n * (e + 2 * q) ≤ 127 * 136
-    size-fits h = rw (hn, he, hq) (mul-le-mul {m₂ = 136} (h .statesMost) (h .widthMost))
+    pub size-fits : BookHeader b → n * w ≤ 127 * 136
+    size-fits h = rw (hn, hw) (mul-le-mul {m₂ = 136} (h .statesMost) (h .widthMost))
 
-    pub exact-is : eqb (length b) (12 + n * (e + 2 * q)) ≡ eqb (length b) (12 + states b * width b)
-    exact-is = rw (hn, he, hq)
+    pub exact-is : eqb (length b) (12 + n * w) ≡ eqb (length b) (12 + states b * width b)
+    exact-is = rw (hn, hw)
+
+-- ---- a number that is x where a test passes, and else 0
+module _ (t : Bool) (x number : ℕ) (is : number ≡ cond t x 0) where
+  pub where-holds : (number ≡ 0 → ⊥) → (t ≡ true) × (number ≡ x)
+  where-holds some = go t is
+    where
+      go : (u : Bool) → number ≡ cond u x 0 → (u ≡ true) × (number ≡ x)
+      go true e = (refl, e)
+      go false e = absurd (some e)
+
+  pub where-fails : (t ≡ true → 1 ≤ x) → number ≡ 0 → t ≡ false
+  where-fails some none = go t is some
+    where
+      go : (u : Bool) → number ≡ cond u x 0 → (u ≡ true → 1 ≤ x) → u ≡ false
+      go true e least = absurd (omega (arith, least refl))
+      go false e least = refl

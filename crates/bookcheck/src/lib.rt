@@ -6,14 +6,15 @@ ghost use lib.ListN.{length};
 ghost use Rattle.automaton.specs.Below.{allBelow, listBelow};
 ghost use Rattle.definitions.specs.Book as Book;
 ghost use Rattle.definitions.specs.Bytes.{within as isWithin};
-ghost use Rattle.definitions.specs.Refusal.{isMarked, countHolds, headerHolds, layoutHolds, entriesHold, bookRefusal};
+ghost use Rattle.definitions.specs.Refusal.{isMarked, countHolds, entriesHold, bookRefusal};
+ghost use Rattle.bookcheck.specs.Layout.{headerRequests, laidOutWidth};
 ghost use Rattle.bookcheck.specs.Entries.{greatest as greatestOf, isPossible, eventsPossible, lesser};
 ghost use Rattle.definitions.specs.Checked.{BookHeader, BookLayout};
 use automaton::wide;
 use book::events;
 use book::requests;
 use book::states;
-use book::width;
+use book::width_from;
 
 // The number of the lowest row of 12 to 14 that refuses the book, 0 if none does.
 pub fn refusal(book: &[u8]) -> usize
@@ -22,10 +23,11 @@ pub fn refusal(book: &[u8]) -> usize
     if !is_marked(book) {
         return 12;
     }
-    if !is_laid_out(book) {
+    let w = laid_out_width(book);
+    if w == 0 {
         return 13;
     }
-    if !entries_hold(book) {
+    if !entries_hold(book, w) {
         return 14;
     }
     0
@@ -58,43 +60,51 @@ fn is_marked(book: &[u8]) -> bool
     true
 }
 
-// Row 13: the header, and the exact length.
-fn is_laid_out(book: &[u8]) -> bool
+// Row 13: the header, and the exact length. Returns w, the number of codes, where both hold, and else 0.
+fn laid_out_width(book: &[u8]) -> usize
     requires { ⌜ 12 ≤ length (now book) ⌝ }
-    ensures { λ r. ⌜ r ≡ layoutHolds (now (book .entry)) ⌝ }
+    ensures { λ r. ⌜ r ≡ laidOutWidth (now (book .entry)) ⌝ }
 {
-    if !header_holds(book) {
-        return false;
+    let q = header_requests(book);
+    if q == 0 {
+        return 0;
     }
-    is_exact(book)
+    let w = width_from(book, q);
+    if !is_exact(book, w) {
+        return 0;
+    }
+    w
 }
 
-// The ranges and the absent counts. This needs the first 12 bytes only.
-fn header_holds(book: &[u8]) -> bool
+// The ranges and the absent counts. Returns Q, the number of requests, where they hold, and else 0. This needs the first 12 bytes only.
+fn header_requests(book: &[u8]) -> usize
     requires { ⌜ 12 ≤ length (now book) ⌝ }
-    ensures { λ r. ⌜ r ≡ headerHolds (now (book .entry)) ⌝ }
+    ensures { λ r. ⌜ r ≡ headerRequests (now (book .entry)) ⌝ }
 {
     if 8 < events(book) {
-        return false;
+        return 0;
     }
     if !within(1, wide(book[6]), 4) {
-        return false;
+        return 0;
     }
     if !counts_hold(book) {
-        return false;
+        return 0;
     }
-    if 64 < requests(book) {
-        return false;
+    if !within(1, states(book), 127) {
+        return 0;
     }
-    within(1, states(book), 127)
+    let q = requests(book);
+    if 64 < q {
+        return 0;
+    }
+    q
 }
 
 // Whether the rows of a book whose header holds end where the book does.
-fn is_exact(book: &[u8]) -> bool
-    requires { ⌜ (12 ≤ length (now book)) × BookHeader (now book) ⌝ }
+fn is_exact(book: &[u8], w: usize) -> bool
+    requires { ⌜ (12 ≤ length (now book)) × BookHeader (now book) × (w ≡ Book.width (now book)) ⌝ }
     ensures { λ r. ⌜ r ≡ eqb (length (now (book .entry))) (12 + Book.states (now (book .entry)) * Book.width (now (book .entry))) ⌝ }
 {
-    let w = events(book) + 2 * requests(book);
     book.len() == 12 + states(book) * w
 }
 
@@ -125,8 +135,8 @@ fn count_holds(book: &[u8], f: usize) -> bool
 }
 
 // Row 14. The greatest entry is found without a branch, since every call takes this row.
-fn entries_hold(book: &[u8]) -> bool
-    requires { ⌜ BookLayout (now book) ⌝ }
+fn entries_hold(book: &[u8], w: usize) -> bool
+    requires { ⌜ BookLayout (now book) × (w ≡ Book.width (now book)) ⌝ }
     ensures { λ r. ⌜ r ≡ entriesHold (now (book .entry)) ⌝ }
 {
     let n = states(book);
@@ -134,7 +144,7 @@ fn entries_hold(book: &[u8]) -> bool
     if n < most {
         return false;
     }
-    events_possible(book)
+    events_possible(book, w)
 }
 
 // The greatest entry of all rows.
@@ -153,11 +163,10 @@ fn greatest(book: &[u8]) -> u8
 }
 
 // Whether every event is possible, in every row.
-fn events_possible(book: &[u8]) -> bool
-    requires { ⌜ BookLayout (now book) ⌝ }
+fn events_possible(book: &[u8], w: usize) -> bool
+    requires { ⌜ BookLayout (now book) × (w ≡ Book.width (now book)) ⌝ }
     ensures { λ r. ⌜ r ≡ eventsPossible (now (book .entry)) ⌝ }
 {
-    let w = width(book);
     if w < 8 {
         return possible_by_rows(book, w);
     }

@@ -61,7 +61,12 @@ pub extern "C" fn policybook_page(book: &[u8], page: &mut [u8]) -> u64
 // Finds the earliest possible history after which a request has an outcome: 0 none, 1 accept, 2 reject, 3 both. The value is one more than the history's length, and 0
 // where there is no such history. The history goes to the front of the buffer; the bytes after it are unchanged, and on a refusal or on no history all of them.
 #[no_mangle]
-pub extern "C" fn policybook_way(book: &[u8], request: usize, outcome: usize, history: &mut [u8]) -> u64
+pub extern "C" fn policybook_way(
+    book: &[u8],
+    request: usize,
+    outcome: usize,
+    history: &mut [u8],
+) -> u64
     ensures { λ r. ⌜ r ≡ packed lengthOrNone (wayAnswer (now (book .entry)) request outcome (now (history .entry))) ⌝ }
     ensures { λ r. ⌜ now (history .exit) ≡ wayBuffer (now (book .entry)) request outcome (now (history .entry)) ⌝ }
 {

@@ -91,10 +91,9 @@ module _ (b : List ℕ) (d : Decision) (ok : BookPassed b) where
 
             somewhere : (j : ℕ) → k ≡ suc j → (firstThat (isSought b d) (statesReached b) ≡ some (reachedAt order′ trail′ j)) × (j < states b) × EarlierParents (suc j) (firstAt trail′)
             somewhere j ej =
-                let same : last .last ≡ j = omega (arith, last .is) in
-                (
+                let same : last .last ≡ j = omega (arith, last .is) in (
                   ap (firstThat (isSought b d)) (sym all-reached)
-                  ∙ first-of-front (isSought b d) front (reachedAt order′ trail′ j) (first ∙ ap (λ (x : ℕ). some (reachedAt order′ trail′ x)) same),
+                      ∙ first-of-front (isSought b d) front (reachedAt order′ trail′ j) (first ∙ ap (λ (x : ℕ). some (reachedAt order′ trail′ x)) same),
                   omega (arith, few),
                   subst (λ (x : ℕ). EarlierParents x (firstAt trail′)) ej (visited .are .holds .falls),
                 )

@@ -30,7 +30,14 @@ struct Visited {
 }
 
 // Whether a code led to a new state that has the decision: `k` states were found before, and `more` are now.
-fn is_hit(book: &[u8], width: usize, decision: Decision, k: usize, more: usize, there: usize) -> bool
+fn is_hit(
+    book: &[u8],
+    width: usize,
+    decision: Decision,
+    k: usize,
+    more: usize,
+    there: usize,
+) -> bool
     requires { ⌜ Sought (now book) width decision × (k < more → (1 ≤ there) × (there ≤ Book.states (now book))) ⌝ }
     ensures { λ r. ⌜ r ≡ (ltb k more && isSought (now (book .entry)) decision there) ⌝ }
 {
@@ -134,7 +141,15 @@ pub fn show_few(book: &[u8], width: usize, decision: Decision, history: &mut [u8
     let mut order = [0u8; 16];
     let mut trail = [0u8; 32];
     let mut numbers = [0u8; 16];
-    show_in(book, width, decision, &mut order, &mut trail, &mut numbers, history)
+    show_in(
+        book,
+        width,
+        decision,
+        &mut order,
+        &mut trail,
+        &mut numbers,
+        history,
+    )
 }
 
 // The same with room for every book.
@@ -145,5 +160,13 @@ pub fn show_many(book: &[u8], width: usize, decision: Decision, history: &mut [u
     let mut order = [0u8; 128];
     let mut trail = [0u8; 256];
     let mut numbers = [0u8; 128];
-    show_in(book, width, decision, &mut order, &mut trail, &mut numbers, history)
+    show_in(
+        book,
+        width,
+        decision,
+        &mut order,
+        &mut trail,
+        &mut numbers,
+        history,
+    )
 }

@@ -16,9 +16,9 @@ use book::width_from;
 use bookcheck::refusal;
 use decision::Decision;
 use decision::has_outcome;
+pub use first::Shown;
 use first::show_few;
 use first::show_many;
-pub use first::Shown;
 
 // Finds the earliest possible history after which a request has an outcome: 0 none, 1 accept, 2 reject, 3 both. The history goes to the front of the buffer; the
 // bytes after it are unchanged, and so is all of the buffer where there is no such history, and on a refusal.
@@ -40,7 +40,12 @@ pub fn way(book: &[u8], request: usize, outcome: usize, history: &mut [u8]) -> S
     if q <= request {
         return Shown::Refused(16);
     }
-    show(book, width_from(book, q), Decision { request, outcome }, history)
+    show(
+        book,
+        width_from(book, q),
+        Decision { request, outcome },
+        history,
+    )
 }
 
 // A call that no row refuses. Where the start has the outcome there is nothing to search.

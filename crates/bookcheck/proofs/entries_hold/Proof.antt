@@ -23,7 +23,7 @@ returns : tie.Need-returns
 returns c =
     let b = c .before .before .before .before .before .args .book .now in
     let above : states b < greatest b (length b - 12) = omega (arith, c .before .before .greatest .ensures, c .before .before .before .states .ensures) in
-    too-great b (c .before .before .before .before .before .pre) above
+    too-great b (c .before .before .before .before .before .pre .0) above
 
 events-possible-requires : tie.Need-events-possible-requires
 events-possible-requires c κs = search needs
@@ -32,7 +32,7 @@ returns-2 : tie.Need-returns-2
 returns-2 c =
     let b = c .before .before .before .before .before .before .args .book .now in
     let few : greatest b (length b - 12) ≤ states b = omega (arith, c .before .before .before .greatest .ensures, c .before .before .before .before .states .ensures) in
-    c .events-possible .ensures ∙ none-great b (c .before .before .before .before .before .before .pre) few
+    c .events-possible .ensures ∙ none-great b (c .before .before .before .before .before .before .pre .0) few
 
 pub entries-hold-spec : {M : Type 1} → statement M
 entries-hold-spec =
