@@ -16,15 +16,18 @@ pub fn build(policy: &[u8], book: &mut [u8]) -> u64 {
 
 pub fn verdict(book: &[u8], conflict: &mut [u8], missing: &mut [u8], blocked: &mut [u8]) -> u64 {
     packed(entry::verdict(book, conflict, missing, blocked), |found| {
-        finding(found.conflict)
-            + (finding(found.missing) << 16)
-            + (found.blocked.map_or(0, |length| length as u64 + 1) << 32)
+        finding(found.conflict) + (finding(found.missing) << 16) + (history(found.blocked) << 32)
     })
+}
+
+/// A history by its length: 0 is left for none.
+fn history(length: Option<usize>) -> u64 {
+    length.map_or(0, |length| length as u64 + 1)
 }
 
 fn finding(found: Option<RequestVerdict>) -> u64 {
     found.map_or(0, |found| {
-        found.length as u64 + 1 + ((found.request as u64) << 8)
+        history(Some(found.length)) + ((found.request as u64) << 8)
     })
 }
 
@@ -40,4 +43,8 @@ pub fn compare(first: &[u8], second: &[u8], history: &mut [u8]) -> u64 {
 
 pub fn page(book: &[u8], page: &mut [u8]) -> u64 {
     packed(entry::page(book, page), |length| length as u64)
+}
+
+pub fn way(book: &[u8], request: usize, outcome: usize, buffer: &mut [u8]) -> u64 {
+    packed(entry::way(book, request, outcome, buffer), history)
 }

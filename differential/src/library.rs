@@ -33,6 +33,14 @@ mod foreign {
             page: *mut u8,
             page_len: usize,
         ) -> u64;
+        pub fn policybook_way(
+            book: *const u8,
+            book_len: usize,
+            request: usize,
+            outcome: usize,
+            history: *mut u8,
+            history_len: usize,
+        ) -> u64;
     }
 }
 
@@ -80,4 +88,19 @@ pub fn compare(first: &[u8], second: &[u8], history: &mut [u8]) -> u64 {
 pub fn page(book: &[u8], page: &mut [u8]) -> u64 {
     // SAFETY: as for build.
     unsafe { foreign::policybook_page(book.as_ptr(), book.len(), page.as_mut_ptr(), page.len()) }
+}
+
+/// The answer of way on a book, a request and an outcome; the history is written to the buffer.
+pub fn way(book: &[u8], request: usize, outcome: usize, history: &mut [u8]) -> u64 {
+    // SAFETY: as for build.
+    unsafe {
+        foreign::policybook_way(
+            book.as_ptr(),
+            book.len(),
+            request,
+            outcome,
+            history.as_mut_ptr(),
+            history.len(),
+        )
+    }
 }

@@ -7,11 +7,13 @@
 
 mod expected;
 mod library;
+mod ways;
 
 use std::collections::BTreeMap;
 use std::process::ExitCode;
 
 use reference::generate::{self, Random};
+use ways::Ways;
 
 /// How one call was answered over all its inputs.
 #[derive(Default)]
@@ -146,7 +148,7 @@ fn built(policy: &[u8]) -> Vec<u8> {
     }
 }
 
-/// Verdict and page, on the same books.
+/// Verdict, page and way, on the same books.
 #[derive(Default)]
 struct OfBooks {
     verdict: Tally,
@@ -155,6 +157,7 @@ struct OfBooks {
     unreached: u64,
     /// How many pages are of 127 states and 64 requests.
     fullest: u64,
+    ways: Ways,
 }
 
 impl OfBooks {
@@ -193,6 +196,7 @@ fn of_books(count: u64, seed: u64) -> OfBooks {
         let input = format!("{kind} {i}");
         noted.note_verdict(i, &book, &input);
         noted.note_page(i, &book, &input);
+        noted.ways.note(i, kind, &book);
     }
     noted
 }
@@ -261,6 +265,7 @@ fn main() -> ExitCode {
         ("verdict", &of_books.verdict),
         ("compare", &compare),
         ("page", &of_books.page),
+        ("way", &of_books.ways.way),
     ];
     for (call, tally) in &tallies {
         tally.print(call);
@@ -274,6 +279,7 @@ fn main() -> ExitCode {
         "longest page: {} bytes; pages of 127 states and 64 requests: {}; with a state that no history leads to: {}",
         of_books.page.greatest, of_books.fullest, of_books.unreached
     );
+    of_books.ways.print();
     match tallies.iter().all(|(_, tally)| tally.differences == 0) {
         true => ExitCode::SUCCESS,
         false => ExitCode::FAILURE,

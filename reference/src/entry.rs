@@ -6,6 +6,7 @@ use crate::compare::{self, Comparison};
 use crate::findings::{findings, RequestFinding};
 use crate::page;
 use crate::refusal::Refusal;
+use crate::way;
 
 /// The least size of the buffer of build.
 pub const BUILD_BUFFER: usize = MOST_LENGTH;
@@ -15,6 +16,8 @@ pub const VERDICT_BUFFER: usize = 128;
 pub const COMPARE_BUFFER: usize = 256;
 /// The least size of the buffer of page.
 pub const PAGE_BUFFER: usize = page::MOST_LENGTH;
+/// The least size of the buffer of way.
+pub const WAY_BUFFER: usize = 128;
 
 /// A finding about a request, whose history stands in the lent buffer.
 #[derive(Clone, Copy, Debug, PartialEq, Eq)]
@@ -97,6 +100,21 @@ pub fn page(book: &[u8], buffer: &mut [u8]) -> Result<usize, Refusal> {
     }
     let text = page::page(&book::read(book)?);
     Ok(write(text.as_bytes(), buffer))
+}
+
+/// Writes the earliest history after which a request has an outcome and gives
+/// its length, or nothing if there is no such history.
+pub fn way(
+    book: &[u8],
+    request: usize,
+    outcome: usize,
+    buffer: &mut [u8],
+) -> Result<Option<usize>, Refusal> {
+    if buffer.len() < WAY_BUFFER {
+        return Err(Refusal::Buffer);
+    }
+    let found = way::way(&book::read(book)?, request, outcome)?;
+    Ok(found.map(|history| write(&history, buffer)))
 }
 
 /// Writes bytes at the beginning of a buffer and gives their number.

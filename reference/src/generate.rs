@@ -7,6 +7,7 @@ mod extremes;
 mod plays;
 mod policies;
 mod policy_damage;
+mod questions;
 mod random;
 mod shape;
 mod start_damage;
@@ -15,17 +16,18 @@ mod variation;
 
 pub use book_damage::{damaged_book, faulty_pair};
 pub use books::{book, book_pair};
-pub use extremes::{far_pair, late_finding_book, longest_pair};
+pub use extremes::{far_pair, late_finding_book, late_outcome_book, longest_pair};
 pub use plays::play;
 pub use policies::policy;
 pub use policy_damage::damaged_policy;
+pub use questions::{question, Question};
 pub use random::Random;
 pub use start_damage::damaged_starting_policy;
 pub use starts::{starting_pair, starting_policy};
 pub use variation::policy_pair;
 
 /// The names of the kinds that `one` knows.
-pub const KINDS: [&str; 18] = [
+pub const KINDS: [&str; 19] = [
     "policy",
     "policy-pair-first",
     "policy-pair-second",
@@ -44,6 +46,7 @@ pub const KINDS: [&str; 18] = [
     "damaged-starting-policy",
     "starting-pair-first",
     "starting-pair-second",
+    "late-outcome-book",
 ];
 
 /// The input of a kind named in `KINDS` for a seed, nothing for another name.
@@ -67,6 +70,7 @@ pub fn one(kind: &str, seed: u64) -> Option<Vec<u8>> {
         "damaged-starting-policy" => damaged_starting_policy(seed),
         "starting-pair-first" => starting_pair(seed).0,
         "starting-pair-second" => starting_pair(seed).1,
+        "late-outcome-book" => late_outcome_book(seed),
         _ => return None,
     })
 }

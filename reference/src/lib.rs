@@ -22,6 +22,7 @@ pub mod refusal;
 pub mod shelf;
 pub mod situation;
 pub mod walk;
+pub mod way;
 pub mod words;
 
 /// A list of codes. Every code is below 136, so it fits into a byte.

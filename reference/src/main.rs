@@ -3,13 +3,14 @@
 use std::fs;
 use std::io::{self, Read};
 use std::process::ExitCode;
+use std::str::FromStr;
 
 use reference::book::{self, Book};
 use reference::compare::{self, Comparison};
 use reference::findings::findings;
 use reference::refusal::Refusal;
 use reference::words::Names;
-use reference::{dot, generate, hex, host, page, play, programs, shelf};
+use reference::{dot, generate, hex, host, page, play, programs, shelf, way};
 
 const HELP: &str = "\
 reference book FILE                  print the book of a policy in hexadecimal
@@ -18,6 +19,7 @@ reference play FILE                  print what the program play prints for a bo
 reference compare FILE FILE          compare two books
 reference verdict FILE               print the findings about a book
 reference page FILE                  print the page of the book of a policy, or of a book
+reference way FILE REQUEST OUTCOME   print the earliest history to an outcome of a request, for a policy or a book
 reference build FILE OUT             write the book of a policy into the file OUT
 reference generate KIND SEED OUT     write a generated input into the file OUT
 reference host FILE FILE             print what the sample host prints for two policies
@@ -27,7 +29,8 @@ reference help                       print this text
 
 A FILE of - is standard input. An input that is turned down gives the line
 'refused N'; its meaning is written to standard error. The NAMEs of dot are
-those of the events, then of the requests.
+those of the events, then of the requests. An OUTCOME is 0 none, 1 accept,
+2 reject or 3 both.
 Kinds:";
 
 fn main() -> ExitCode {
@@ -64,6 +67,7 @@ fn run(arguments: &[&str]) -> Result<String, String> {
         ["page", file] => Ok(answer(policy_or_book(&read(file)?), |book| {
             page::page(&book)
         })),
+        ["way", file, request, outcome] => print_way(file, request, outcome),
         ["build", file, out] => write_book(file, out),
         ["generate", kind, seed, out] => write_generated(kind, seed, out),
         ["host", first, second] => Ok(host::host(file(first), file(second))),
@@ -111,6 +115,14 @@ fn comparison_line(comparison: Comparison) -> String {
     }
 }
 
+fn print_way(file: &str, request: &str, outcome: &str) -> Result<String, String> {
+    let (request, outcome) = (number("request", request)?, number("outcome", outcome)?);
+    let found = policy_or_book(&read(file)?).and_then(|book| way::way(&book, request, outcome));
+    Ok(answer(found, |history| {
+        format!("way{}\n", shelf::history_or_none(&history))
+    }))
+}
+
 fn write_book(file: &str, out: &str) -> Result<String, String> {
     match book::build(&read(file)?) {
         Ok(book) => write(out, &book.to_bytes()).map(|()| String::new()),
@@ -119,10 +131,7 @@ fn write_book(file: &str, out: &str) -> Result<String, String> {
 }
 
 fn write_generated(kind: &str, seed: &str, out: &str) -> Result<String, String> {
-    let seed: u64 = seed
-        .parse()
-        .map_err(|_| format!("the seed is not a number: {seed}"))?;
-    let bytes = generate::one(kind, seed)
+    let bytes = generate::one(kind, number("seed", seed)?)
         .ok_or_else(|| format!("no such kind: {kind}; kinds: {}", generate::KINDS.join(" ")))?;
     write(out, &bytes).map(|()| String::new())
 }
@@ -162,6 +171,13 @@ fn write_runs(folder: &str) -> Result<String, String> {
         write(&format!("{program}/stdout"), run.stdout.as_bytes())?;
     }
     Ok(String::new())
+}
+
+/// A number of 64 bits from its digits.
+fn number<T: FromStr>(what: &str, digits: &str) -> Result<T, String> {
+    digits
+        .parse()
+        .map_err(|_| format!("the {what} is not a number of 64 bits: {digits}"))
 }
 
 fn read(file: &str) -> Result<Vec<u8>, String> {

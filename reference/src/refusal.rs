@@ -40,11 +40,13 @@ pub enum Refusal {
     Walk = 16,
     /// A starting value is above 63; judged after 7 and before 8.
     PolicyStart = 17,
+    /// The outcome asked for is above 3; judged after 14 and before 16.
+    Outcome = 18,
 }
 
 impl Refusal {
     /// Every refusal, in the order of the numbers.
-    pub const ALL: [Refusal; 17] = [
+    pub const ALL: [Refusal; 18] = [
         Refusal::Buffer,
         Refusal::PolicyShort,
         Refusal::PolicyMark,
@@ -62,6 +64,7 @@ impl Refusal {
         Refusal::Frames,
         Refusal::Walk,
         Refusal::PolicyStart,
+        Refusal::Outcome,
     ];
 
     /// The number of the row.
@@ -97,6 +100,7 @@ impl Refusal {
                 "the state, request or code is outside its range, or the step is not possible"
             }
             Refusal::PolicyStart => "a starting value is above 63",
+            Refusal::Outcome => "the outcome is above 3",
         }
     }
 }

@@ -3,6 +3,7 @@
 use crate::book;
 use crate::findings::{findings, Findings, RequestFinding};
 use crate::refusal::Refusal;
+use crate::History;
 
 /// The greatest number of bytes that `shelf` judges.
 pub const MOST_BYTES: usize = 1_024;
@@ -26,10 +27,7 @@ pub fn finding_lines(findings: &Findings) -> String {
         "conflict{}\nmissing{}\nblocked{}\n",
         request_part(&findings.conflict),
         request_part(&findings.missing),
-        findings
-            .blocked
-            .as_ref()
-            .map_or(" -".to_string(), |history| history_part(history)),
+        history_or_none(&findings.blocked),
     )
 }
 
@@ -42,6 +40,14 @@ pub fn refusal_line(refusal: Refusal) -> String {
 pub fn history_part(history: &[u8]) -> String {
     let codes: String = history.iter().map(|code| format!(" {code}")).collect();
     format!(" {}{}", history.len(), codes)
+}
+
+/// The part for a history that may be absent.
+pub fn history_or_none(history: &Option<History>) -> String {
+    match history {
+        Some(history) => history_part(history),
+        None => " -".to_string(),
+    }
 }
 
 fn request_part(finding: &Option<RequestFinding>) -> String {

@@ -3,31 +3,13 @@
 
 mod common;
 
-use common::{entry, requests, state_after, width};
+use common::{entry, histories, requests, state_after, width};
 use reference::book::{self, build};
 use reference::compare::{compare, Comparison};
 use reference::findings::{findings, RequestFinding};
 use reference::generate;
 use reference::walk::{Answer, OpenedBook};
 use reference::History;
-
-/// All histories of up to `most` codes that `possible` allows, in order.
-fn histories(width: usize, most: usize, possible: impl Fn(&[u8]) -> bool) -> Vec<History> {
-    let mut all = vec![History::new()];
-    let mut next = 0;
-    while next < all.len() {
-        if all[next].len() < most {
-            for code in 0..width {
-                let longer = [&all[next][..], &[code as u8]].concat();
-                if possible(&longer) {
-                    all.push(longer);
-                }
-            }
-        }
-        next += 1;
-    }
-    all
-}
 
 /// The earliest history possible in just one of two small books, by trying all.
 fn earliest_difference(first: &[u8], second: &[u8], most: usize) -> Option<History> {

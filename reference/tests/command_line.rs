@@ -136,6 +136,39 @@ fn page_prints_the_lines_of_a_policy_or_a_book() {
 }
 
 #[test]
+fn way_prints_the_earliest_history_or_a_dash() {
+    let way = |input: &[u8], request: &str, outcome: &str| {
+        let output = run(&["way", "-", request, outcome], input);
+        assert_eq!(output.status.code(), Some(0));
+        String::from_utf8(output.stdout).expect("plain text")
+    };
+    let (greatest, half) = (u64::MAX.to_string(), (1_u64 << 63).to_string());
+    for (policy, request, outcome, line) in [
+        (policy_e(), "0", "3", "way 2 3 3\n"),
+        (policy_e(), "0", "1", "way 0\n"),
+        (policy_a(), "0", "0", "way -\n"),
+        (policy_g(), "0", "0", "way 1 0\n"),
+        (policy_a(), "2", "3", "refused 16\n"),
+        (policy_a(), &half, "1", "refused 16\n"),
+        (policy_a(), "1", "4", "refused 18\n"),
+        (policy_a(), &greatest, &greatest, "refused 18\n"),
+    ] {
+        assert_eq!(way(&policy, request, outcome), line);
+        assert_eq!(way(&book_bytes(&policy), request, outcome), line);
+    }
+    assert_eq!(way(&[], "2", "4"), "refused 2\n");
+    assert_eq!(way(b"BOK", "2", "4"), "refused 12\n");
+    let refused = run(&["way", "-", "0", "4"], &policy_a());
+    assert_eq!(
+        String::from_utf8(refused.stderr).unwrap(),
+        "refused by number 18: the outcome is above 3\n"
+    );
+    for words in [["way", "-", "x", "1"], ["way", "-", "0", "-1"]] {
+        assert_eq!(text(&run(&words, &policy_a())), ("", Some(2)));
+    }
+}
+
+#[test]
 fn build_writes_the_book() {
     let out = file("built.bok", b"");
     assert_eq!(
@@ -191,7 +224,8 @@ fn help_is_an_answer() {
     let (help, status) = text(&output);
     assert_eq!(status, Some(0));
     for command in [
-        "book", "shelf", "compare", "verdict", "page", "build", "generate", "host", "dot", "help",
+        "book", "shelf", "compare", "verdict", "page", "way", "build", "generate", "host", "dot",
+        "help",
     ] {
         assert!(help.contains(&format!("reference {command}")));
     }

@@ -228,7 +228,7 @@ fn generated_books_pass_the_checks() {
 }
 
 /// For each kind of input, a sum over the bytes for the first 40 seeds.
-const SUMS: [(&str, u64); 18] = [
+const SUMS: [(&str, u64); 19] = [
     ("policy", 0xDA23_5E0E_3629_2C1D),
     ("policy-pair-first", 0x3480_96C1_D3A2_B227),
     ("policy-pair-second", 0xCE55_9955_F26C_296D),
@@ -247,20 +247,33 @@ const SUMS: [(&str, u64); 18] = [
     ("damaged-starting-policy", 0x9BE1_E041_1D4D_35CA),
     ("starting-pair-first", 0x61F8_F5D0_3FCF_954D),
     ("starting-pair-second", 0x76AC_0950_CF35_C839),
+    ("late-outcome-book", 0xAF1D_028F_5B16_0D76),
 ];
+
+/// A sum that depends on every byte and on their order (the method called FNV-1a).
+fn sum(bytes: impl Iterator<Item = u8>) -> u64 {
+    bytes.fold(0xCBF2_9CE4_8422_2325, |sum, byte| {
+        (sum ^ u64::from(byte)).wrapping_mul(0x0000_0100_0000_01B3)
+    })
+}
 
 /// The bytes that the generators give for a seed are the same forever.
 #[test]
 fn generators_give_the_same_bytes_forever() {
     let sums = generate::KINDS.map(|kind| {
-        let mut sum: u64 = 0xCBF2_9CE4_8422_2325;
-        for seed in 0..40 {
-            for byte in generate::one(kind, seed).unwrap() {
-                sum = (sum ^ u64::from(byte)).wrapping_mul(0x0000_0100_0000_01B3);
-            }
-        }
-        (kind, sum)
+        let inputs = (0..40).flat_map(|seed| generate::one(kind, seed).unwrap());
+        (kind, sum(inputs))
     });
     assert_eq!(sums, SUMS);
     assert_eq!(generate::codes(1, 100, 6), [10, 80, 97, 51, 68, 25]);
+}
+
+#[test]
+fn questions_are_the_same_forever() {
+    let questions = (0..400).flat_map(|seed| {
+        let question = generate::question(seed, &generate::book(seed));
+        [question.request, question.outcome]
+    });
+    let sum = sum(questions.flat_map(usize::to_be_bytes));
+    assert_eq!(sum, 0x91D0_C443_EBA4_2368);
 }

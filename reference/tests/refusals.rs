@@ -35,7 +35,7 @@ fn numbers_are_the_rows_of_the_table() {
         .iter()
         .map(|refusal| refusal.number())
         .collect();
-    assert!(all.into_iter().eq(1..=17));
+    assert!(all.into_iter().eq(1..=18));
 }
 
 #[test]

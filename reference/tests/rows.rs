@@ -33,6 +33,7 @@ fn row_1() {
     );
     for book in [&a[..], &[]] {
         assert_eq!(entry::page(book, &mut [0; 9_270]), Err(Refusal::Buffer));
+        assert_eq!(entry::way(book, 0, 1, &mut [0; 127]), Err(Refusal::Buffer));
         for sizes in [[127, 128, 128], [128, 127, 128], [128, 128, 127], [0, 0, 0]] {
             let [mut one, mut two, mut three] = sizes.map(|size| vec![0; size]);
             let answer = entry::verdict(book, &mut one, &mut two, &mut three);
@@ -40,6 +41,7 @@ fn row_1() {
         }
     }
     assert_eq!(entry::page(&a, &mut [0; 9_271]), Ok(219));
+    assert_eq!(entry::way(&a, 1, 2, &mut [0; 128]), Ok(Some(2)));
     let [mut one, mut two, mut three] = [[0; 128]; 3];
     assert!(entry::verdict(&a, &mut one, &mut two, &mut three).is_ok());
 }

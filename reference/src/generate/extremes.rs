@@ -1,10 +1,12 @@
 //! Books at the far ends of what is possible: a pair whose earliest difference
-//! is as long as it can be, and books with a finding only in their last state.
+//! is as long as it can be, and books with a finding, or an outcome of a
+//! request, only in their last state.
 
 use super::books::renumber;
 use super::random::Random;
 use crate::book::{Book, MOST_STATES};
 use crate::frame::Frame;
+use crate::way::MOST_OUTCOME;
 
 /// Two books of one frame with these numbers of states (1 to 127 each) whose
 /// earliest difference has `first_states + second_states - 1` codes.
@@ -166,4 +168,60 @@ fn last_row(frame: &Frame, random: &mut Random) -> Vec<u8> {
         row[frame.reject_code(request)] = 0;
     }
     row
+}
+
+/// A book of 127 states in which some request has some outcome only after 126
+/// codes. Often more than one code leads on from a state.
+pub fn late_outcome_book(seed: u64) -> Vec<u8> {
+    let mut random = Random::new(seed, "late outcome");
+    let frame = far_frame(&mut random);
+    let request = random.below(frame.requests());
+    let outcome = random.below(MOST_OUTCOME + 1);
+    let mut rows = Vec::new();
+    for state in 1..MOST_STATES {
+        let mut row = vec![0; frame.width()];
+        let used = answers_but(&frame, request, outcome, &mut random);
+        for &code in &used {
+            row[code] = random.between(1, state) as u8;
+        }
+        for _ in 0..random.between(1, 3) {
+            row[*random.pick(&used)] = state as u8 + 1;
+        }
+        rows.push(row);
+    }
+    let mut last = vec![0; frame.width()];
+    for code in any_answers(&frame, request, outcome, &mut random) {
+        last[code] = random.between(1, MOST_STATES) as u8;
+    }
+    rows.push(last);
+    let book = Book { frame, rows };
+    if random.chance(1, 2) {
+        return renumber(&book, &mut random).to_bytes();
+    }
+    book.to_bytes()
+}
+
+/// Some codes, at least one, that give the request another outcome than this.
+fn answers_but(frame: &Frame, request: usize, outcome: usize, random: &mut Random) -> Vec<usize> {
+    loop {
+        let other = (outcome + random.between(1, MOST_OUTCOME)) % (MOST_OUTCOME + 1);
+        let codes = any_answers(frame, request, other, random);
+        if !codes.is_empty() {
+            return codes;
+        }
+    }
+}
+
+/// The codes of all events, those that give the request this outcome, and half
+/// of the others.
+fn any_answers(frame: &Frame, request: usize, outcome: usize, random: &mut Random) -> Vec<usize> {
+    let (accept, reject) = (frame.accept_code(request), frame.reject_code(request));
+    (0..frame.width())
+        .filter(|&code| match code {
+            _ if code < frame.events => true,
+            _ if code == accept => outcome % 2 == 1,
+            _ if code == reject => outcome >= 2,
+            _ => random.chance(1, 2),
+        })
+        .collect()
 }

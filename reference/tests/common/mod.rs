@@ -7,7 +7,7 @@ use reference::book::{build, Book};
 use reference::explore::explore;
 use reference::refusal::Refusal;
 use reference::situation::Situation;
-use reference::{hex, policy};
+use reference::{hex, policy, History};
 
 /// Policy A.
 pub const A: &str = "50 4F 4C 00 01 01 01 01 03 02 | 00 01 01 00 00 00 00 \
@@ -143,6 +143,24 @@ pub fn state_after(book: &[u8], history: &[u8]) -> Option<usize> {
         }
     }
     Some(state)
+}
+
+/// All histories of up to `most` codes that `possible` allows, in order.
+pub fn histories(width: usize, most: usize, possible: impl Fn(&[u8]) -> bool) -> Vec<History> {
+    let mut all = vec![History::new()];
+    let mut next = 0;
+    while next < all.len() {
+        if all[next].len() < most {
+            for code in 0..width {
+                let longer = [&all[next][..], &[code as u8]].concat();
+                if possible(&longer) {
+                    all.push(longer);
+                }
+            }
+        }
+        next += 1;
+    }
+    all
 }
 
 /// An entry of a book, straight from its bytes.
