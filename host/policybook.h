@@ -21,7 +21,7 @@
  *   - each pointer is valid for its length, and none is null, also where the length is 0;
  *   - a buffer that is written overlaps with no other argument (two books that are only read may be the same);
  *   - about 128 kB of stack are free.
- * Nothing else is asked: any bytes may be given as a policy or as a book, and any length.
+ * Nothing else is asked: any bytes may be given as a policy or as a book, and any length, request and outcome.
  *
  * Link with target/staticlib/libpolicybook.a, which `rt staticlib policybook` writes. Examples: host/sample.c, host/page.c, host/way.c, host/answers.c.
  */
@@ -115,11 +115,10 @@ uint64_t policybook_compare(const uint8_t *first, size_t first_len, const uint8_
 uint64_t policybook_page(const uint8_t *book, size_t book_len, uint8_t *page, size_t page_len);
 
 /*
- * Finds a way to an outcome of a request: the earliest history possible in the book after which the request (0 is the first) has that outcome,
+ * The way to an outcome of a request: the earliest history possible in the book after which the request, counted from 0, has that outcome,
  * a number of enum policybook_outcome; history has room for POLICYBOOK_WAY_SIZE bytes.
- * Refused with 1, 12 to 14, 18 or 16, whatever the size of the two numbers. Else policybook_way_of takes the answer apart: whether there is
- * such a history, and its length, which is below the number of states. The buffer then begins with it, one code a byte; bytes after it, and
- * the whole buffer where there is none, stay.
+ * Refused with 1, 12 to 14, 18 or 16. Else policybook_way_of takes the answer apart: whether there is such a history, and its length, which is
+ * below the number of states. The buffer then begins with it, one code a byte; bytes after it, and the whole buffer where there is none, stay.
  *
  *     uint8_t history[POLICYBOOK_WAY_SIZE];
  *     uint64_t answer = policybook_way(book, book_length, 0, POLICYBOOK_OUTCOME_BOTH, history, sizeof history);
