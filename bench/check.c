@@ -99,6 +99,17 @@ static void check_verdict(uint64_t input, const struct bytes *book)
     same(x == y && memcmp(one, two, sizeof one) == 0, "verdict", input);
 }
 
+static void check_way(uint64_t input, const struct bytes *book)
+{
+    uint8_t one[128], two[128];
+    size_t request = below(8) ? below(4) : (size_t)below(128) << below(57), outcome = below(8) ? below(4) : (size_t)below(128) << below(57);
+    memset(one, 0xA5, sizeof one);
+    memset(two, 0xA5, sizeof two);
+    uint64_t x = policybook_way(book->at, book->length, request, outcome, one, 128);
+    uint64_t y = plain_way(book->at, book->length, request, outcome, two, 128);
+    same(x == y && memcmp(one, two, sizeof one) == 0, "way", input);
+}
+
 static void check_compare(uint64_t input, const struct bytes *first, const struct bytes *second)
 {
     uint8_t one[256], two[256];
@@ -135,6 +146,7 @@ int main(int argc, char **argv)
         damage(&second);
         check_verdict(i, &second);
         check_page(i, &second);
+        check_way(i, &second);
         check_compare(i, &first, &second);
     }
     printf("plain C answers as the library on %lu inputs of each call; %lu of the policies have a book, of up to %lu states\n", count, built, longest);

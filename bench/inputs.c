@@ -156,6 +156,16 @@ void late_findings(struct bytes *book)
     *entry(book, STATES, EVENTS + 1) = STATES;
 }
 
+void all_codes(struct bytes *book)
+{
+    widest_header(book, STATES);
+    for (unsigned s = 1; s <= STATES; s++) {
+        memset(entry(book, s, EVENTS), (int)s, WIDTH - EVENTS);
+        *entry(book, s, TELLER) = (uint8_t)(s < STATES ? s + 1 : s);
+    }
+    *entry(book, STATES, EVENTS + 1) = 0;
+}
+
 void half_reached(struct bytes *book)
 {
     widest_header(book, STATES);

@@ -45,6 +45,9 @@ void all_pairs(struct bytes *first, struct bytes *second);
 /* A book of 127 states and 136 codes whose findings come only after 126 codes. */
 void late_findings(struct bytes *book);
 
+/* A book of 127 states in which all 136 codes are possible in every state, but for request 0 rejected in the last one, to which 126 codes lead. */
+void all_codes(struct bytes *book);
+
 /* A book of 127 states and 136 codes in which a history leads to every second state only. */
 void half_reached(struct bytes *book);
 

@@ -74,6 +74,18 @@ static void plainly_page(void *at)
     j->written.answer = plain_page(j->first.at, j->first.length, j->written.page, PAGE_ROOM);
 }
 
+static void library_way(void *at)
+{
+    struct job *j = at;
+    j->written.answer = policybook_way(j->first.at, j->first.length, j->request, j->outcome, j->written.history, 128);
+}
+
+static void plainly_way(void *at)
+{
+    struct job *j = at;
+    j->written.answer = plain_way(j->first.at, j->first.length, j->request, j->outcome, j->written.history, 128);
+}
+
 static void library_equal_bytes(void *at)
 {
     struct job *j = at;
@@ -163,6 +175,12 @@ void measure_page(struct job *j, struct result *result)
 {
     agreed(j, library_page, plainly_page, "page");
     measure(j, library_page, plainly_page, NULL, result);
+}
+
+void measure_way(struct job *j, struct result *result)
+{
+    agreed(j, library_way, plainly_way, "way");
+    measure(j, library_way, plainly_way, NULL, result);
 }
 
 void measure_equal_bytes(struct job *j, struct result *result)

@@ -11,6 +11,7 @@ enum { LIBRARY, PLAIN, OPENFST, IMPLEMENTATIONS };
 /* What the jobs read, and what they write. */
 struct job {
     struct bytes policy, first, second;
+    size_t request, outcome;
     struct automaton *policy_automaton, *first_automaton, *second_automaton;
     struct written {
         uint8_t book[BOOK_ROOM], conflict[128], missing[128], blocked[128], history[256], page[PAGE_ROOM];
@@ -28,6 +29,7 @@ void measure_build(struct job *job, struct result *result);
 void measure_verdict(struct job *job, struct result *result);
 void measure_compare(struct job *job, struct result *result);
 void measure_page(struct job *job, struct result *result);
+void measure_way(struct job *job, struct result *result);
 void measure_equal_bytes(struct job *job, struct result *result);
 
 #endif

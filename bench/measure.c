@@ -1,5 +1,6 @@
 /* measure.c: the tables of docs/MEASUREMENTS.md, in Markdown. Usage: measure jobs, or measure growth */
 #include "jobs.h"
+#include "policybook.h"
 
 #include <stdio.h>
 #include <string.h>
@@ -34,6 +35,14 @@ static void row(const char *job, const char *input, measurement *measure, struct
     fflush(stdout);
 }
 
+/* The way to an outcome of request 0 in the first book. */
+static void way_row(const char *job, const char *input, size_t outcome, struct job *j)
+{
+    j->request = 0;
+    j->outcome = outcome;
+    row(job, input, measure_way, j);
+}
+
 /* The book that build gave last becomes the first book. */
 static void take_book(struct job *j)
 {
@@ -41,12 +50,14 @@ static void take_book(struct job *j)
     memcpy(j->first.at, j->written.book, j->first.length);
 }
 
-/* All jobs of a policy: its book, the verdict on it, its page, and the book beside itself and beside one with a late difference. */
+/* All jobs of a policy: its book, the verdict on it, a way sought in vain (no policy leaves request 0 unanswered), its page, and the book beside itself and beside
+ * one with a late difference. */
 static void policy_rows(const char *input, struct job *j)
 {
     row("build", input, measure_build, j);
     take_book(j);
     row("verdict", input, measure_verdict, j);
+    way_row("way, no history", input, POLICYBOOK_OUTCOME_NONE, j);
     row("page", input, measure_page, j);
     j->second = j->first;
     row("compare, same", input, measure_compare, j);
@@ -59,6 +70,13 @@ static void book_rows(const char *input, struct job *j)
 {
     late_findings(&j->first);
     row("verdict, late findings", input, measure_verdict, j);
+    way_row("way, late findings, 126 codes", input, POLICYBOOK_OUTCOME_BOTH, j);
+    way_row("way, late findings, no history", input, POLICYBOOK_OUTCOME_NONE, j);
+    all_codes(&j->first);
+    row("verdict, all codes possible", input, measure_verdict, j);
+    way_row("way, all codes possible, 126 codes", input, POLICYBOOK_OUTCOME_ACCEPT, j);
+    way_row("way, all codes possible, no history", input, POLICYBOOK_OUTCOME_NONE, j);
+    late_findings(&j->first);
     renumbered(&j->first, &j->second);
     row("compare, same, other numbers", input, measure_compare, j);
     farthest_pair(&j->first, &j->second, 1);

@@ -1,4 +1,4 @@
-/* plain_book.c: verdict, compare and page. Breadth-first search over the states of a book, and over the pairs of states of two. */
+/* plain_book.c: verdict, compare, page and way. Breadth-first search over the states of a book, and over the pairs of states of two. */
 #include "plain.h"
 #include "plain_policy.h"
 
@@ -252,6 +252,54 @@ uint64_t plain_page(const uint8_t *book, size_t book_len, uint8_t *page, size_t 
     for (unsigned s = 1; s <= b.states; s++)
         write_line(&b, s, length[s], page + (s - 1) * LINE);
     return 256 * (uint64_t)(b.states * LINE);
+}
+
+static int has_outcome(const struct book *b, unsigned state, unsigned request, unsigned outcome)
+{
+    const uint8_t *answers = row_of(b, state) + b->events + 2 * request;
+    return (answers[0] != 0) + 2 * (answers[1] != 0) == (int)outcome;
+}
+
+/* The length of the earliest history after which the request has the outcome, plus one; 0 if there is none. A state is tested when it is found, so that
+ * the search ends at the first one that has the outcome. */
+static unsigned search_outcome(const struct book *b, unsigned request, unsigned outcome, uint8_t *history)
+{
+    uint8_t seen[MOST_STATES + 1] = { 0 }, order[MOST_STATES];
+    struct trail trail;
+    unsigned count = 1;
+    if (has_outcome(b, 1, request, outcome))
+        return 1;
+    order[0] = 1;
+    seen[1] = 1;
+    for (unsigned i = 0; i < count; i++) {
+        const uint8_t *row = row_of(b, order[i]);
+        for (unsigned c = 0; c < b->width; c++) {
+            if (row[c] == 0 || seen[row[c]])
+                continue;
+            seen[row[c]] = 1;
+            trail.from[count] = (uint16_t)i;
+            trail.code[count] = (uint8_t)c;
+            if (has_outcome(b, row[c], request, outcome))
+                return write_history(&trail, count, history) + 1;
+            order[count++] = row[c];
+        }
+    }
+    return 0;
+}
+
+uint64_t plain_way(const uint8_t *book, size_t book_len, size_t request, size_t outcome, uint8_t *history, size_t history_len)
+{
+    struct book b;
+    if (history_len < 128)
+        return 1;
+    unsigned refusal = read_book(book, book_len, &b);
+    if (refusal != 0)
+        return refusal;
+    if (outcome > 3)
+        return 18;
+    if (request >= b.requests)
+        return 16;
+    return 256 * (uint64_t)search_outcome(&b, (unsigned)request, (unsigned)outcome, history);
 }
 
 int plain_same_bytes(const uint8_t *first, size_t first_len, const uint8_t *second, size_t second_len)

@@ -1,10 +1,11 @@
 /*
  * The answers of the library in the lines that `reference` prints for the same words, so that the two are compared as text.
- *   answers build POLICY OUT      writes the book of a policy into the file OUT
- *   answers shelf POLICY          the number of states and the three findings of a policy
- *   answers verdict BOOK          the three findings of a book
- *   answers compare BOOK BOOK     same, or the earliest history possible in just one
- *   answers page FILE             the page of the book of a policy, or of a book, told apart by their marks
+ *   answers build POLICY OUT           writes the book of a policy into the file OUT
+ *   answers shelf POLICY               the number of states and the three findings of a policy
+ *   answers verdict BOOK               the three findings of a book
+ *   answers compare BOOK BOOK          same, or the earliest history possible in just one
+ *   answers page FILE                  the page of the book of a policy, or of a book, told apart by their marks
+ *   answers way FILE REQUEST OUTCOME   the earliest history to an outcome of a request, of a policy or a book likewise
  * A refusal is the line `refused N`, with its meaning on standard error. Exit status: 0 for every answer, 2 for bad usage or files.
  */
 #include <stdio.h>
@@ -81,6 +82,14 @@ static void page(struct bytes book)
     free(lines);
 }
 
+static void way(struct bytes book, size_t request, size_t outcome)
+{
+    uint8_t *history = lent_buffer(POLICYBOOK_WAY_SIZE, 0);
+    uint64_t answer = policybook_way(book.data, book.length, request, outcome, history, POLICYBOOK_WAY_SIZE);
+    if (!is_refused(answer)) print_finding("way", policybook_way_of(answer), 0, history);
+    free(history);
+}
+
 /* The book of a policy, with no byte to spare. 0 if it is refused. */
 static int build(struct bytes policy, struct bytes *book)
 {
@@ -133,19 +142,41 @@ static int with_books(const char *first_name, const char *second_name)
     return readable ? 0 : 2;
 }
 
-/* Prints the page of a book, or of a policy's. The exit status. */
-static int with_either(const char *name)
+/* Reads a book, or a policy in whose place its book is put. Without one `data` is null, and the exit status is given. */
+static int read_either(const char *name, struct bytes *book)
 {
-    struct bytes file, book;
+    struct bytes file;
+    *book = (struct bytes){ NULL, 0 };
     if (!read_file(name, BOOK_READ, &file)) return 2;
     if (file.length >= 3 && memcmp(file.data, "BOK", 3) == 0) {
-        page(file);
-    } else if (build(file, &book)) {
-        page(book);
-        free(book.data);
+        *book = file;
+        return 0;
     }
+    build(file, book);
     free(file.data);
     return 0;
+}
+
+/* Prints the page of a book, or of a policy's. The exit status. */
+static int with_page(const char *name)
+{
+    struct bytes book;
+    int status = read_either(name, &book);
+    if (book.data != NULL) page(book);
+    free(book.data);
+    return status;
+}
+
+/* Prints the way in a book, or in a policy's, to the outcome of a request. The exit status. */
+static int with_way(const char *name, const char *request_digits, const char *outcome_digits)
+{
+    struct bytes book;
+    size_t request, outcome;
+    if (!read_number(request_digits, &request) || !read_number(outcome_digits, &outcome)) return 2;
+    int status = read_either(name, &book);
+    if (book.data != NULL) way(book, request, outcome);
+    free(book.data);
+    return status;
 }
 
 int main(int argc, char **argv)
@@ -155,7 +186,8 @@ int main(int argc, char **argv)
     if (argc == 3 && strcmp(command, "shelf") == 0) return with_policy(argv[2], NULL);
     if (argc == 3 && strcmp(command, "verdict") == 0) return with_books(argv[2], NULL);
     if (argc == 4 && strcmp(command, "compare") == 0) return with_books(argv[2], argv[3]);
-    if (argc == 3 && strcmp(command, "page") == 0) return with_either(argv[2]);
-    fprintf(stderr, "usage: answers build POLICY OUT | shelf POLICY | verdict BOOK | compare BOOK BOOK | page FILE\n");
+    if (argc == 3 && strcmp(command, "page") == 0) return with_page(argv[2]);
+    if (argc == 5 && strcmp(command, "way") == 0) return with_way(argv[2], argv[3], argv[4]);
+    fprintf(stderr, "usage: answers build POLICY OUT | shelf POLICY | verdict BOOK | compare BOOK BOOK | page FILE | way FILE REQUEST OUTCOME\n");
     return 2;
 }

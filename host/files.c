@@ -1,4 +1,4 @@
-/* Files, copies and buffers on the heap, for the programs of this folder. */
+/* Files, copies and buffers on the heap, and numbers of the command line, for the programs of this folder. */
 #include "files.h"
 
 #include <errno.h>
@@ -50,4 +50,15 @@ int read_file(const char *name, size_t most, struct bytes *bytes)
     if (error == 0) *bytes = exact_copy(data, length);
     free(data);
     return error == 0 ? 1 : cannot_be_read(name, error);
+}
+
+int read_number(const char *text, size_t *number)
+{
+    size_t digits = strspn(text, "0123456789");
+    *number = 0;
+    for (size_t i = 0; i < digits; i++) {
+        size_t digit = (size_t)(text[i] - '0');
+        *number = *number > (SIZE_MAX - digit) / 10 ? SIZE_MAX : 10 * *number + digit;
+    }
+    return digits > 0 && text[digits] == '\0';
 }

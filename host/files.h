@@ -1,4 +1,4 @@
-/* Files, copies and buffers on the heap, for the programs of this folder. */
+/* Files, copies and buffers on the heap, and numbers of the command line, for the programs of this folder. */
 #ifndef FILES_H
 #define FILES_H
 
@@ -19,5 +19,8 @@ struct bytes exact_copy(const uint8_t *data, size_t length);
 
 /* A buffer of this size, every byte the same. Ends the program if there is no memory. */
 uint8_t *lent_buffer(size_t size, int byte);
+
+/* Reads a number in decimal digits; one above SIZE_MAX is read as SIZE_MAX, which every call refuses like it. 0 if there is anything else. */
+int read_number(const char *text, size_t *number);
 
 #endif

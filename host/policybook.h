@@ -1,5 +1,5 @@
 /*
- * policybook.h: building, judging and comparing policy books, and writing their pages, for C99 and later and for C++.
+ * policybook.h: building, judging and comparing policy books, writing their pages and finding ways in them, for C99 and later and for C++.
  *
  * A policy file holds access rules. Its book is a table that says, after every history of events and decided requests, which steps are
  * possible next. A step is one byte, its code; a history is a list of codes. docs/FORMATS.md describes policies, books and codes byte by byte.
@@ -11,7 +11,7 @@
  *     else
  *         book_length = (size_t)policybook_value_of(answer);   // the book is the first book_length bytes of the buffer
  *
- * The four functions are proved: for every input they end, read and write only what is lent to them, and answer as docs/C-INTERFACE.md says.
+ * The five functions are proved: for every input they end, read and write only what is lent to them, and answer as docs/C-INTERFACE.md says.
  * They keep no state, allocate nothing, set no errno, and may be called from several threads at once. The inline functions below are plain C.
  *
  * An answer is one number. Modulo 256 it is the number of a refusal, 0 where nothing is refused; divided by 256 it is the value.
@@ -21,9 +21,9 @@
  *   - each pointer is valid for its length, and none is null, also where the length is 0;
  *   - a buffer that is written overlaps with no other argument (two books that are only read may be the same);
  *   - about 128 kB of stack are free.
- * Nothing else is asked: any bytes may be given as a policy or as a book, and any length.
+ * Nothing else is asked: any bytes may be given as a policy or as a book, and any length, request and outcome.
  *
- * Link with target/staticlib/libpolicybook.a, which `rt staticlib policybook` writes. Examples: host/sample.c, host/page.c, host/answers.c.
+ * Link with target/staticlib/libpolicybook.a, which `rt staticlib policybook` writes. Examples: host/sample.c, host/page.c, host/way.c, host/answers.c.
  */
 #ifndef POLICYBOOK_H
 #define POLICYBOOK_H
@@ -40,6 +40,7 @@ extern "C" {
 #define POLICYBOOK_FINDING_SIZE   128 /* verdict: each of the three histories, of at most 126 codes */
 #define POLICYBOOK_HISTORY_SIZE   256 /* compare: the history, of at most 253 codes */
 #define POLICYBOOK_PAGE_SIZE     9271 /* page: the page; none is longer */
+#define POLICYBOOK_WAY_SIZE       128 /* way: the history, of at most 126 codes */
 
 /* No policy is longer. A host that reads one byte more of a longer file gets the refusal that the whole file would get. */
 #define POLICYBOOK_POLICY_MOST    753
@@ -61,10 +62,20 @@ enum policybook_refusal {
     POLICYBOOK_RULE_VALUE = 9,        /* a decision, test or change is outside its values */
     POLICYBOOK_VALUATIONS = 10,       /* there are over 64 valuations of the variables */
     POLICYBOOK_SITUATIONS = 11,       /* over 127 situations are reached */
-    POLICYBOOK_BOOK_HEADER = 12,      /* the book has under 12 bytes, or another mark or version (12 to 14: verdict, compare and page) */
+    POLICYBOOK_BOOK_HEADER = 12,      /* the book has under 12 bytes, or another mark or version (12 to 14: all but build) */
     POLICYBOOK_BOOK_LAYOUT = 13,      /* a number of its header is outside its range, or its length does not follow from them */
     POLICYBOOK_BOOK_ENTRY = 14,       /* an entry is above the number of states, or 0 for an event */
-    POLICYBOOK_FRAMES = 15            /* the two books differ in their events or value counts (compare) */
+    POLICYBOOK_FRAMES = 15,           /* the two books differ in their events or value counts (compare) */
+    POLICYBOOK_UNKNOWN_OUTCOME = 18,  /* the outcome is above 3 (way) */
+    POLICYBOOK_NOT_IN_BOOK = 16       /* the request is not below the book's number of requests (way) */
+};
+
+/* What may happen to a request after a history: exactly one of these. */
+enum policybook_outcome {
+    POLICYBOOK_OUTCOME_NONE = 0,    /* it is unanswered: neither accepted nor rejected */
+    POLICYBOOK_OUTCOME_ACCEPT = 1,  /* it may be accepted, not rejected */
+    POLICYBOOK_OUTCOME_REJECT = 2,  /* it may be rejected, not accepted */
+    POLICYBOOK_OUTCOME_BOTH = 3     /* it may be accepted and may be rejected */
 };
 
 /*
@@ -103,23 +114,37 @@ uint64_t policybook_compare(const uint8_t *first, size_t first_len, const uint8_
  */
 uint64_t policybook_page(const uint8_t *book, size_t book_len, uint8_t *page, size_t page_len);
 
+/*
+ * The way to an outcome of a request: the earliest history possible in the book after which the request, counted from 0, has that outcome,
+ * a number of enum policybook_outcome; history has room for POLICYBOOK_WAY_SIZE bytes.
+ * Refused with 1, 12 to 14, 18 or 16. Else policybook_way_of takes the answer apart: whether there is such a history, and its length, which is
+ * below the number of states. The buffer then begins with it, one code a byte; bytes after it, and the whole buffer where there is none, stay.
+ *
+ *     uint8_t history[POLICYBOOK_WAY_SIZE];
+ *     uint64_t answer = policybook_way(book, book_length, 0, POLICYBOOK_OUTCOME_BOTH, history, sizeof history);
+ *     struct policybook_finding way = policybook_way_of(answer);
+ *     if (policybook_refusal_of(answer) == POLICYBOOK_OK && way.found)
+ *         for (unsigned i = 0; i < way.length; i++) printf(" %u", (unsigned)history[i]);   // " 3 3" for case E, whose answer is 3 * 256
+ */
+uint64_t policybook_way(const uint8_t *book, size_t book_len, size_t request, size_t outcome, uint8_t *history, size_t history_len);
+
 /* ---- Taking an answer apart ---- */
 
 /* The refusal's number, or POLICYBOOK_OK. */
 static inline unsigned policybook_refusal_of(uint64_t answer) { return (unsigned)(answer % 256); }
 
-/* The value: a book's length (build), the packed findings (verdict), a history's length or 0 for same (compare), a page's length (page). 0 on a
- * refusal. */
+/* The value: a book's length (build), the packed findings (verdict), a history's length or 0 for same (compare), a page's length (page), a
+ * history's length plus one or 0 for no history (way). 0 on a refusal. */
 static inline uint64_t policybook_value_of(uint64_t answer) { return answer / 256; }
 
-/* One finding of a verdict. Where found is 0, so are the other two. */
+/* One finding of a verdict, or what way has found. Where found is 0, so are the other two. */
 struct policybook_finding {
     int found;         /* 1 if there is such a history */
     unsigned length;   /* how many codes it has; 0 is the start, before anything has happened */
-    unsigned request;  /* the lowest request; 0 for blocked, which has none */
+    unsigned request;  /* the lowest request; 0 for blocked, which has none, and for way, to which it is given */
 };
 
-/* Used by the three functions below: the finding whose 16 bits begin at this bit of the value. */
+/* Used by the four functions below: the finding whose 16 bits begin at this bit of the value. */
 static inline struct policybook_finding policybook_finding_at(uint64_t answer, unsigned bit)
 {
     struct policybook_finding finding = { 0, 0, 0 };
@@ -135,6 +160,7 @@ static inline struct policybook_finding policybook_finding_at(uint64_t answer, u
 static inline struct policybook_finding policybook_conflict_of(uint64_t answer) { return policybook_finding_at(answer, 0); }
 static inline struct policybook_finding policybook_missing_of(uint64_t answer) { return policybook_finding_at(answer, 16); }
 static inline struct policybook_finding policybook_blocked_of(uint64_t answer) { return policybook_finding_at(answer, 32); }
+static inline struct policybook_finding policybook_way_of(uint64_t answer) { return policybook_finding_at(answer, 0); }
 
 /* What a refusal's number means, in words. */
 static inline const char *policybook_refusal_text(unsigned number)
@@ -157,11 +183,13 @@ static inline const char *policybook_refusal_text(unsigned number)
     case POLICYBOOK_BOOK_LAYOUT: return "a size of the book is outside its range, or its length does not follow from its sizes";
     case POLICYBOOK_BOOK_ENTRY: return "an entry of the book is above its number of states, or 0 for an event";
     case POLICYBOOK_FRAMES: return "the frames of the two books differ";
+    case POLICYBOOK_UNKNOWN_OUTCOME: return "the outcome is above 3";
+    case POLICYBOOK_NOT_IN_BOOK: return "the state, request or code is outside its range, or the step is not possible";
     default: return "no such refusal";
     }
 }
 
-/* ---- Reading a book that was built, or that verdict, compare or page did not refuse ---- */
+/* ---- Reading a book that was built, or that verdict, compare, page or way did not refuse (16 and 18 are not about the book) ---- */
 
 /* How many events, requests and states the book has. */
 static inline unsigned policybook_events_of(const uint8_t *book) { return book[5]; }

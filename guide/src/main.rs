@@ -9,6 +9,7 @@ use std::path::Path;
 use std::process::ExitCode;
 use std::{env, fs};
 
+use guide::exercises::{exercise_answers, exercise_files, exercises};
 use guide::files::{answers, files_of};
 use guide::lessons::lessons;
 use guide::pages::{examples, Example};
@@ -30,7 +31,7 @@ fn main() -> ExitCode {
 }
 
 fn write_all(template: &str, folder: &Path) -> Result<(), String> {
-    let (lessons, examples) = (lessons(), examples());
+    let (lessons, examples, exercises) = (lessons(), examples(), exercises());
     let template =
         fs::read_to_string(template).map_err(|error| format!("cannot read {template}: {error}"))?;
     let inner = folder.join("guide");
@@ -38,13 +39,14 @@ fn write_all(template: &str, folder: &Path) -> Result<(), String> {
         .map_err(|error| format!("cannot make {}: {error}", inner.display()))?;
     write(
         &folder.join("GUIDE.md"),
-        filled(&template, &lessons, &examples)?.as_bytes(),
+        filled(&template, &lessons, &examples, &exercises)?.as_bytes(),
     )?;
     let of_pages: String = examples.iter().map(Example::answers).collect();
-    let answers = answers(&lessons) + &of_pages;
+    let answers = answers(&lessons) + &of_pages + &exercise_answers(&exercises);
     write(&inner.join("answers.txt"), answers.as_bytes())?;
     let of_lessons = lessons.iter().flat_map(files_of);
-    for (name, bytes) in of_lessons.chain(examples.iter().flat_map(Example::files)) {
+    let of_examples = examples.iter().flat_map(Example::files);
+    for (name, bytes) in of_lessons.chain(of_examples).chain(exercise_files()) {
         write(&inner.join(name), &bytes)?;
     }
     Ok(())

@@ -1,20 +1,26 @@
 //! Filling the guide's text: a line `{{what lesson}}`, or with an example of the
-//! file room's for the lesson, stands for what is computed.
+//! file room's or an exercise for the lesson, stands for what is computed.
 
 use reference::findings::{findings, RequestFinding};
 use reference::page::page;
 use reference::words::Names;
 
+use crate::exercises::{of_exercise, Exercise};
 use crate::files::{book_of, earliest, mistaken_book};
 use crate::lessons::{Lesson, Mistaken};
 use crate::pages::Example;
 use crate::rules::Table;
 
 const NOTE: &str =
-    "<!-- Made by guide/make from guide/guide.md and the policies of guide/src/lessons.rs and guide/src/pages.rs. -->\n";
+    "<!-- Made by guide/make from guide/guide.md and the policies of guide/src/lessons.rs, guide/src/pages.rs and guide/src/exercises.rs. -->\n";
 
 /// The guide's text with every place filled, or which line asks for nothing known.
-pub fn filled(template: &str, lessons: &[Lesson], examples: &[Example]) -> Result<String, String> {
+pub fn filled(
+    template: &str,
+    lessons: &[Lesson],
+    examples: &[Example],
+    exercises: &[Exercise],
+) -> Result<String, String> {
     let mut text = NOTE.to_string();
     for line in template.lines() {
         match line
@@ -25,6 +31,7 @@ pub fn filled(template: &str, lessons: &[Lesson], examples: &[Example]) -> Resul
             Some(place) => {
                 let part = part(place, lessons)
                     .or_else(|| of_example(place, examples))
+                    .or_else(|| of_exercise(place, exercises))
                     .ok_or(format!("nothing is known of: {line}"))?;
                 text.push_str(part.trim_end_matches('\n'));
             }
@@ -75,12 +82,12 @@ fn of_example(place: &str, examples: &[Example]) -> Option<String> {
     })
 }
 
-fn picture(name: &str) -> String {
+pub(crate) fn picture(name: &str) -> String {
     format!("![the book {name}](guide/{name}.svg)")
 }
 
 /// The table of rules, and the name of its file.
-fn rules(name: &str, table: &Table) -> String {
+pub(crate) fn rules(name: &str, table: &Table) -> String {
     let markdown = table.markdown();
     format!("{markdown}\nAs a file: [{name}.policy](guide/{name}.policy).\n")
 }
@@ -123,7 +130,7 @@ fn when(names: &Names, history: &[u8]) -> String {
 }
 
 /// The steps, and their codes.
-fn in_words(names: &Names, history: &[u8]) -> String {
+pub(crate) fn in_words(names: &Names, history: &[u8]) -> String {
     let codes: Vec<String> = history.iter().map(|code| code.to_string()).collect();
     format!("*{}* (`{}`)", names.history(history), codes.join(" "))
 }
