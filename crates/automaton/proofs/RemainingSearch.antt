@@ -7,11 +7,12 @@ use native.Mathlib.Nat.{sub-zero}
 use native.Mathlib.Decide.{decLe}
 use native.Mathlib.Omega.{arith}
 use lib.Dec.{ltb}
-use lib.ListN.{length, getD}
+use lib.ListN.{length, getD, length-append}
 use borrow.Author.Tests.{lt-ltb, le-ltb}
+use Rattle.automaton.specs.History.{History}
 use Rattle.automaton.specs.Machine.{Machine, step}
 use Rattle.automaton.specs.Explore.{Reached, visit, unreached, explore, startOf, reached}
-use Rattle.automaton.proofs.Explore.{Front, front-refl, front-trans, add-front, visit-front}
+use Rattle.automaton.proofs.Explore.{reachedHistory, Front, front-refl, front-trans, at-end, add-keeps, add-front, visit-front}
 
 module _ (m : Machine) (t : Reached) (found : List Reached) where
   pub visit-grows : (c k : ℕ) → c ≤ k → Front (visit m t c found) (visit m t k found)
@@ -21,6 +22,30 @@ module _ (m : Machine) (t : Reached) (found : List Reached) where
       go : Dec (c ≤ k) → (c ≤ k → Front (visit m t c found) (visit m t k found)) → Front (visit m t c found) (visit m t (suc k) found)
       go (yes d) ih = front-trans (ih d) (add-front (visit m t k found) (step m (t .state) k) (t .history ++ (k ∷ [])))
       go (no d) ih = let e : c ≡ suc k = omega arith in rw e (front-refl (visit m t (suc k) found))
+
+  -- each state that a visit finds has a history of one code more
+  pub visit-longer : (c k : ℕ) → length found ≤ k → k < length (visit m t c found) → length (reachedHistory (visit m t c found) k) ≡ suc (length (t .history))
+  visit-longer zero k l b = absurd (omega arith)
+  visit-longer (suc c) k l b =
+      add-keeps Longer before h (step m (t .state) c) (visit-longer c) (λ _ _ i low in-list. at-end before u OneMore (λ j inside from. visit-longer c j from inside) (λ _. longer) i in-list low) k l b
+    where
+      before : List Reached
+      before = visit m t c found
+
+      h : History
+      h = t .history ++ (c ∷ [])
+
+      u : Reached
+      u = record { state = step m (t .state) c; history = h }
+
+      longer : length h ≡ suc (length (t .history))
+      longer = omega (arith, length-append (t .history) (c ∷ []))
+
+      OneMore : ℕ → Reached → Type 0
+      OneMore k v = length found ≤ k → length (v .history) ≡ suc (length (t .history))
+
+      Longer : List Reached → Type 0
+      Longer more = (k : ℕ) → length found ≤ k → k < length more → length (reachedHistory more k) ≡ suc (length (t .history))
 
 module _ (m : Machine) where
   explore-front : (fuel i : ℕ) (found : List Reached) → Front found (explore m fuel i found)

@@ -54,8 +54,11 @@ module _ {rows : List ℕ} {w : ℕ} {order₀ trail₀ : List ℕ} {n i : ℕ} 
     pub tried-done : w ≤ c → Arrays (visit m t w before) k order trail numbers
     tried-done l = let e : c ≡ w = omega (arith, T .within) in rw e at (T .are)
 
+    pub tried-grown : n ≤ k
+    tried-grown = omega (arith, holds-length (T .are .holds), found-length order₀ trail₀ n, front-length (visit-front m t c before))
+
     place : i < k
-    place = omega (arith, can .before, holds-length (T .are .holds), found-length order₀ trail₀ n, front-length (visit-front m t c before))
+    place = omega (arith, can .before, tried-grown)
 
     history-same : historyAt trail i ≡ historyAt trail₀ i
     history-same =

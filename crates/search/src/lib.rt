@@ -7,4 +7,5 @@ pub use breadth_first::explore;
 pub use breadth_first::explore_book;
 pub use breadth_first::note;
 pub use trail::put;
+pub use trail::write_codes;
 pub use trail::write_history;

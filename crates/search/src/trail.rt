@@ -31,7 +31,23 @@ fn history_length(trail: &[u8], i: usize) -> usize
     n
 }
 
-// Writes the codes that lead to place i to the front of the buffer, the last first, and returns their number. The bytes after them are unchanged.
+// Writes the codes that lead to place i, of which there are n, to the front of the buffer, the last first. The bytes after them are unchanged.
+pub fn write_codes(trail: &[u8], i: usize, n: usize, buffer: &mut [u8])
+    requires { ⌜ 2 * i + 1 < length (now trail) ⌝ }
+    requires { ⌜ EarlierParents (suc i) (firstAt (now trail)) ⌝ }
+    requires { ⌜ (i ≤ length (now buffer)) × (n ≡ length (historyAt (now trail) i)) ⌝ }
+    ensures { λ _. ⌜ now (buffer .exit) ≡ written (historyAt (now (trail .entry)) i) (now (buffer .entry)) ⌝ }
+{
+    let mut k = i;
+    let mut j = n;
+    while 0 < k {
+        j -= 1;
+        buffer[j] = trail[2 * k + 1];
+        k = wide(trail[2 * k]);
+    }
+}
+
+// The same where the caller does not know how many codes there are. Returns their number.
 pub fn write_history(trail: &[u8], i: usize, buffer: &mut [u8]) -> usize
     requires { ⌜ 2 * i + 1 < length (now trail) ⌝ }
     requires { ⌜ EarlierParents (suc i) (firstAt (now trail)) ⌝ }
@@ -40,12 +56,6 @@ pub fn write_history(trail: &[u8], i: usize, buffer: &mut [u8]) -> usize
     ensures { λ r. ⌜ now (buffer .exit) ≡ written (historyAt (now (trail .entry)) i) (now (buffer .entry)) ⌝ }
 {
     let n = history_length(trail, i);
-    let mut k = i;
-    let mut j = n;
-    while 0 < k {
-        j -= 1;
-        buffer[j] = trail[2 * k + 1];
-        k = wide(trail[2 * k]);
-    }
+    write_codes(trail, i, n, buffer);
     n
 }

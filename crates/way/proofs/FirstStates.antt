@@ -10,24 +10,26 @@ use lib.ListN.{length, set}
 use lib.Seq.{getD-set-same}
 use Rattle.automaton.specs.Explore.{Reached, firstThat}
 use Rattle.automaton.specs.Parents.{EarlierParents}
-use Rattle.automaton.proofs.Explore.{Front, front-length}
+use Rattle.automaton.proofs.Explore.{Front, front-length, visit-front}
 use Rattle.definitions.specs.Bytes.{byte}
 use Rattle.definitions.specs.Book.{width, states}
 use Rattle.definitions.specs.Checked.{BookPassed}
 use Rattle.definitions.specs.Verdict.{statesReached}
-use Rattle.search.specs.Trail.{firstAt}
-use Rattle.search.specs.Found.{SmallTable, statesOf, bookStates, reachedAt, foundIn, EmptyArrays, CanVisit}
-use Rattle.search.proofs.Found.{holds-length}
+use Rattle.search.specs.Trail.{firstAt, historyAt}
+use Rattle.search.specs.Found.{SmallTable, rowsMachine, statesOf, bookStates, reachedAt, foundIn, EmptyArrays, CanVisit}
+use Rattle.search.proofs.Found.{found-length, holds-length}
 use Rattle.search.proofs.FirstFound.{none-below, first-below, first-of-front}
 use Rattle.search.proofs.SearchTurns.{SearchTurn, searched-begun, searched-few, searched-next, searched-front, searched-turn, searched-done}
 use Rattle.search.proofs.TableRows.{book-rows, book-count, book-states, states-few}
-use Rattle.way.specs.FirstState.{rowsOf, isSought, NoneBelow, OnlyLast, VisitedFor, FirstState}
+use Rattle.way.specs.FirstState.{rowsOf, isSought, NoneBelow, OnlyLast, VisitedFor, AtLevel, nextLength, nextEnd, FirstState}
+use Rattle.way.proofs.Levels.{level-begun, level-visited, level-next}
 use Rattle.way.specs.declared.decision.Decision.{Decision}
 
--- i states have been visited, n are found, and none of them has the decision
-pub record SearchedFor (b : List ℕ) (d : Decision) (n i : ℕ) (order trail numbers : List ℕ) : Type 0 where
+-- i states have been visited, n are found, and none of them has the decision; the level is known
+pub record SearchedFor (b : List ℕ) (d : Decision) (n i codes end : ℕ) (order trail numbers : List ℕ) : Type 0 where
   pub turn : SearchTurn (rowsOf b) (width b) n i order trail numbers
   pub none : NoneBelow b d order n
+  pub level : AtLevel trail n i codes end
 
 module _ (b : List ℕ) (d : Decision) (ok : BookPassed b) where
   small : SmallTable (rowsOf b) (width b)
@@ -39,20 +41,21 @@ module _ (b : List ℕ) (d : Decision) (ok : BookPassed b) where
 
   -- state 1 is found
   pub begun : (order trail numbers : List ℕ) → EmptyArrays (states b) order trail numbers → isSought b d 1 ≡ false
-      → SearchedFor b d 1 0 (set order 0 1) trail (set (set numbers 0 1) 1 1)
+      → SearchedFor b d 1 0 0 1 (set order 0 1) trail (set (set numbers 0 1) 1 1)
   begun order trail numbers E start = record {
     turn = searched-begun (rowsOf b) (width b) order trail numbers small (rw (book-count b ok) E);
     none = λ k l.
         let e : k ≡ 0 = omega arith in
         rw e (ap (isSought b d) (getD-set-same order 0 1 0 (omega (arith, E .enough, E .roomOrder))) ∙ start);
+    level = level-begun trail;
   }
 
-  module _ {n i : ℕ} {order trail numbers : List ℕ} (S : SearchedFor b d n i order trail numbers) where
+  module _ {n i codes end : ℕ} {order trail numbers : List ℕ} (S : SearchedFor b d n i codes end order trail numbers) where
     pub found-few : n ≤ 127
     found-few = searched-few (rowsOf b) (width b) small (S .turn)
 
     -- every state has been visited
-    pub nowhere : n ≤ i → FirstState b d 0 order trail
+    pub nowhere : n ≤ i → FirstState b d 0 0 order trail
     unfolding foundIn
     nowhere l =
         let are = searched-done (rowsOf b) (width b) small (S .turn) l .holds .are in
@@ -66,10 +69,14 @@ module _ (b : List ℕ) (d : Decision) (ok : BookPassed b) where
       can-visit = searched-next (rowsOf b) (width b) small (S .turn) l
 
       module _ {k : ℕ} {hit : Bool} {order′ trail′ numbers′ : List ℕ} (visited : VisitedFor b d order trail n i k hit order′ trail′ numbers′) where
-        pub further : hit ≡ false → SearchedFor b d k (i + 1) order′ trail′ numbers′
+        level : AtLevel trail′ k i codes end
+        level = level-visited (rowsMachine (rowsOf b) (width b)) (visited .tried) n i order trail (visited .are .holds) (S .level) l
+
+        pub further : hit ≡ false → SearchedFor b d k (i + 1) (nextLength codes end (i + 1)) (nextEnd end (i + 1) k) order′ trail′ numbers′
         further miss = record {
           turn = searched-turn (rowsOf b) (width b) small (S .turn) l (rw (visited .missed miss .0) at (visited .are));
           none = visited .missed miss .1;
+          level = level-next level (omega (arith, holds-length (visited .are .holds), front-length (visit-front (rowsMachine (rowsOf b) (width b)) (reachedAt order trail i) (visited .tried) (foundIn n order trail)), found-length order trail n));
         }
 
         -- what is found stands at the front of all that is reached
@@ -79,21 +86,26 @@ module _ (b : List ℕ) (d : Decision) (ok : BookPassed b) where
         few : k ≤ states b
         few = omega (arith, book-count b ok, states-few (rowsOf b) (width b) small, front-length front, holds-length (visited .are .holds), ap length (visited .are .holds .are))
 
-        pub here : hit ≡ true → FirstState b d k order′ trail′
+        pub here : hit ≡ true → FirstState b d k (codes + 1) order′ trail′
         unfolding foundIn
         here e = record { nowhere = λ z. absurd (omega (arith, last .is)); somewhere = somewhere }
           where
             last : OnlyLast b d order′ k
-            last = visited .found e
+            last = visited .found e .1
+
+            codes-are : length (historyAt trail′ (last .last)) ≡ suc codes
+            codes-are = level .next (last .last) (omega (arith, S .level .most, visited .found e .0, last .is)) (omega (arith, last .is))
 
             first : firstThat (isSought b d) (foundIn k order′ trail′) ≡ some (reachedAt order′ trail′ (last .last))
             first = first-below (isSought b d) (reachedAt order′ trail′) k (last .last) (omega (arith, last .is)) (last .has) (last .before)
 
             somewhere : (j : ℕ) → k ≡ suc j → (firstThat (isSought b d) (statesReached b) ≡ some (reachedAt order′ trail′ j)) × (j < states b) × EarlierParents (suc j) (firstAt trail′)
+                × (codes + 1 ≡ length (historyAt trail′ j))
             somewhere j ej =
                 let same : last .last ≡ j = omega (arith, last .is) in (
                   ap (firstThat (isSought b d)) (sym all-reached)
                       ∙ first-of-front (isSought b d) front (reachedAt order′ trail′ j) (first ∙ ap (λ (x : ℕ). some (reachedAt order′ trail′ x)) same),
                   omega (arith, few),
                   subst (λ (x : ℕ). EarlierParents x (firstAt trail′)) ej (visited .are .holds .falls),
+                  subst (λ (x : ℕ). codes + 1 ≡ length (historyAt trail′ x)) same (omega (arith, codes-are)),
                 )

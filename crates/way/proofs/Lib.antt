@@ -1,5 +1,6 @@
 -- Laws that belong to no one function.
 pub mod VisitTurns
+pub mod Levels
 pub mod FirstStates
 pub mod ShownWays
 pub mod WayAnswers

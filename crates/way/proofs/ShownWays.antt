@@ -32,22 +32,24 @@ module _ (b : List ℕ) (d : Decision) where
   unfolding way
   way-is o e = ap historyOf e
 
-  pub shows-none : (number : ℕ) {order trail : List ℕ} → FirstState b d number order trail → number ≡ 0 → (buffer : List ℕ) → Shows b d NoHistory buffer buffer
+  pub shows-none : (number : ℕ) {codes : ℕ} {order trail : List ℕ} → FirstState b d number codes order trail → number ≡ 0 → (buffer : List ℕ) → Shows b d NoHistory buffer buffer
   shows-none number F e buffer = rw (way-is none (F .nowhere e)) (refl, refl)
 
-  -- what `write_history` asks for at the place with this number
-  pub shows-asks : (number : ℕ) {order trail : List ℕ} → FirstState b d number order trail → (number ≡ 0 → ⊥) → (size room : ℕ) → states b < size → 2 * size ≤ length trail
-      → states b ≤ room → (2 * (number - 1) + 1 < length trail) × (EarlierParents (suc (number - 1)) (firstAt trail) × (number - 1 ≤ room))
-  shows-asks number F found size room enough long few =
+  -- what `write_codes` asks for at the place with this number
+  pub shows-asks : (number codes : ℕ) {order trail : List ℕ} → FirstState b d number codes order trail → (number ≡ 0 → ⊥) → (size room : ℕ) → states b < size → 2 * size ≤ length trail
+      → states b ≤ room
+      → (2 * (number - 1) + 1 < length trail) × (EarlierParents (suc (number - 1)) (firstAt trail) × ((number - 1 ≤ room) × (codes ≡ length (historyAt trail (number - 1)))))
+  shows-asks number codes F found size room enough long few =
       let at = F .somewhere (number - 1) (back number found) in
-      (omega (arith, at .1), (at .2, omega (arith, at .1)))
+      (omega (arith, at .1), (at .2, (omega (arith, at .1), at .3)))
 
-  -- m codes are written, those of that place
-  pub shows-found : (number m : ℕ) {order trail : List ℕ} (buffer after : List ℕ) → FirstState b d number order trail → (number ≡ 0 → ⊥)
-      → m ≡ length (historyAt trail (number - 1)) → after ≡ written (historyAt trail (number - 1)) buffer → Shows b d (After m) buffer after
-  shows-found number m {order} {trail} buffer after F found em ea =
+  -- the codes of that place are written
+  pub shows-found : (number codes : ℕ) {order trail : List ℕ} (buffer after : List ℕ) → FirstState b d number codes order trail → (number ≡ 0 → ⊥)
+      → after ≡ written (historyAt trail (number - 1)) buffer → Shows b d (After codes) buffer after
+  shows-found number codes {order} {trail} buffer after F found ea =
       let k = number - 1 in
-      rw (way-is (some (reachedAt order trail k)) (F .somewhere k (back number found) .0), written-read (historyAt trail k) buffer m after em ea) (refl, ea)
+      let at = F .somewhere k (back number found) in
+      rw (way-is (some (reachedAt order trail k)) (at .0), written-read (historyAt trail k) buffer codes after (at .3) ea) (refl, ea)
 
   start-first : Front (startOf (bookMachine b)) (statesReached b)
   start-first = remains-front (bookMachine b) 127 (statesReached b) 0 (startOf (bookMachine b)) (remains-begun (bookMachine b) 127 (statesReached b) refl)

@@ -17,7 +17,7 @@ use Rattle.definitions.specs.Checked.{BookPassed}
 use Rattle.search.specs.Trail.{historyAt}
 use Rattle.search.specs.Found.{foundIn, Arrays, CanVisit, SmallTable}
 use Rattle.search.proofs.Found.{noted-before, noted-last}
-use Rattle.search.proofs.SearchTurns.{Tried, tried-begun, tried-low, tried-asks, tried-turn, tried-done}
+use Rattle.search.proofs.SearchTurns.{Tried, tried-begun, tried-low, tried-grown, tried-asks, tried-turn, tried-done}
 use Rattle.search.proofs.TableRows.{book-rows, book-count, row-entry}
 use Rattle.way.specs.FirstState.{rowsOf, isSought, NoneBelow, OnlyLast, VisitedFor}
 use Rattle.way.specs.declared.decision.Decision.{Decision}
@@ -43,6 +43,10 @@ module _ {b : List ℕ} (ok : BookPassed b) {order₀ trail₀ : List ℕ} {n i 
   visit-state s es = (omega (arith, can .some), omega (arith, can .most, book-count b ok))
 
   module _ {d : Decision} {c k : ℕ} {order trail numbers : List ℕ} (T : VisitTurn b d order₀ trail₀ n i c k order trail numbers) where
+    -- no state is lost
+    grown : n ≤ k
+    grown = tried-grown small can (T .tried)
+
     -- all codes have been tried
     pub visit-done : width b ≤ c → VisitedFor b d order₀ trail₀ n i k false order trail numbers
     visit-done l = record {
@@ -88,12 +92,15 @@ module _ {b : List ℕ} (ok : BookPassed b) {order₀ trail₀ : List ℕ} {n i 
                   within = omega arith;
                   are = next .are;
                   missed = λ e. absurd (true≢false e);
-                  found = λ e. record {
-                    last = k;
-                    is = last .0;
-                    has = ap (isSought b d) (last .1) ∙ sym (rw (lt-ltb k more new) at is) ∙ taken;
-                    before = before;
-                  };
+                  found = λ e. (
+                    omega (arith, grown),
+                    record {
+                      last = k;
+                      is = last .0;
+                      has = ap (isSought b d) (last .1) ∙ sym (rw (lt-ltb k more new) at is) ∙ taken;
+                      before = before;
+                    },
+                  );
                 }
 
         pub visit-turn : (hit : Bool) → hit ≡ (ltb k more && isSought b d x) → hit ≡ false → VisitTurn b d order₀ trail₀ n i (c + 1) more order′ trail′ numbers′

@@ -1,10 +1,11 @@
 -- The search for the first state with a decision: what a visit leaves that ends where such a state is found, and what the search leaves.
 use mathlib.Core.Path.{_≡_}
-use mathlib.Core.Bool.{Bool, true, false}
+use mathlib.Core.Bool.{Bool, true, false, cond}
 use mathlib.Core.List.{List}
 use mathlib.Core.Option.{none, some}
 use Prim.Native.Nat.{ℕ, suc, _≤_, _<_}
-use lib.ListN.{drop}
+use lib.Dec.{ltb}
+use lib.ListN.{length, drop}
 use Rattle.automaton.specs.Explore.{Reached, visit, firstThat}
 use Rattle.automaton.specs.Parents.{EarlierParents}
 use Rattle.definitions.specs.Bytes.{byte}
@@ -12,7 +13,7 @@ use Rattle.definitions.specs.Book.{width, requests, states}
 use Rattle.definitions.specs.Checked.{BookPassed}
 use Rattle.definitions.specs.Verdict.{statesReached}
 use Rattle.definitions.specs.Way.{hasOutcome}
-use Rattle.search.specs.Trail.{firstAt}
+use Rattle.search.specs.Trail.{firstAt, historyAt}
 use Rattle.search.specs.Found.{rowsMachine, reachedAt, foundIn, Arrays}
 use Rattle.way.specs.declared.decision.Decision.{Decision}
 
@@ -47,10 +48,27 @@ pub record VisitedFor (b : List ℕ) (d : Decision) (order₀ trail₀ : List �
   pub within : tried ≤ width b
   pub are : Arrays (visit (rowsMachine (rowsOf b) (width b)) (reachedAt order₀ trail₀ i) tried (foundIn n order₀ trail₀)) k order trail numbers
   pub missed : hit ≡ false → (tried ≡ width b) × NoneBelow b d order k
-  pub found : hit ≡ true → OnlyLast b d order k
+  pub found : hit ≡ true → (n < k) × OnlyLast b d order k
 
--- the search is over: no state that a history reaches has the decision, or the first that has it stands at the place with this number, counted from 1
-pub record FirstState (b : List ℕ) (d : Decision) (number : ℕ) (order trail : List ℕ) : Type 0 where
+-- the states of a search that has visited those before place i and found n, as far as they are still to be visited: those before place `end` are found after so many
+-- codes, and those from it on after one more
+pub record AtLevel (trail : List ℕ) (n i codes end : ℕ) : Type 0 where
+  pub inside : i < n → i < end
+  pub most : end ≤ n
+  pub few : codes ≤ i
+  pub here : (k : ℕ) → i ≤ k → k < end → length (historyAt trail k) ≡ codes
+  pub next : (k : ℕ) → end ≤ k → k < n → length (historyAt trail k) ≡ suc codes
+
+-- the level once place i is reached and n states are found
+abbrev pub nextLength : ℕ → ℕ → ℕ → ℕ
+nextLength codes end i = cond (ltb i end) codes (suc codes)
+
+abbrev pub nextEnd : ℕ → ℕ → ℕ → ℕ
+nextEnd end i n = cond (ltb i end) end n
+
+-- the search is over: no state that a history reaches has the decision, or the first that has it stands at the place with this number, counted from 1, and is reached
+-- after so many codes
+pub record FirstState (b : List ℕ) (d : Decision) (number codes : ℕ) (order trail : List ℕ) : Type 0 where
   pub nowhere : number ≡ 0 → firstThat (isSought b d) (statesReached b) ≡ none
   pub somewhere : (k : ℕ) → number ≡ suc k → (firstThat (isSought b d) (statesReached b) ≡ some (reachedAt order trail k))
-      × (k < states b) × EarlierParents (suc k) (firstAt trail)
+      × (k < states b) × EarlierParents (suc k) (firstAt trail) × (codes ≡ length (historyAt trail k))

@@ -6,7 +6,7 @@ ghost use lib.Dec.{ltb};
 ghost use lib.ListN.{length};
 ghost use Rattle.definitions.specs.Book as Book;
 ghost use Rattle.search.specs.Found.{foundIn, Arrays, EmptyArrays, CanVisit};
-ghost use Rattle.way.specs.FirstState.{rowsOf, Sought, isSought, NoneBelow, VisitedFor, FirstState};
+ghost use Rattle.way.specs.FirstState.{rowsOf, Sought, isSought, NoneBelow, VisitedFor, nextLength, nextEnd, FirstState};
 ghost use Rattle.way.specs.ShownAnswer.{Shows};
 use crate::decision::Decision;
 use crate::decision::has_outcome;
@@ -14,7 +14,7 @@ use automaton::wide;
 use book::entry;
 use search::begin;
 use search::note;
-use search::write_history;
+use search::write_codes;
 
 // What a way is: the number of the row that refuses the call, that no history leads there, or how many codes the earliest has.
 pub enum Shown {
@@ -85,7 +85,34 @@ fn visit_for(
     }
 }
 
-// The number, counted from 1, of the first state found that has the decision, which the start has not; 0 if no state has it.
+// The states that a search finds after so many codes, as far as they are still to be visited: those before place `end` after `length` codes, and those from it on
+// after one more.
+struct Level {
+    length: usize,
+    end: usize,
+}
+
+// The level once the states before place `i` have been visited and `n` are found.
+fn next_level(level: Level, i: usize, n: usize) -> Level
+    requires { ⌜ level .length ≤ 127 ⌝ }
+    ensures { λ r. ⌜ (r .length ≡ nextLength (level .length) (level .end) i) × (r .end ≡ nextEnd (level .end) i n) ⌝ }
+{
+    if i < level.end {
+        return level;
+    }
+    Level {
+        length: level.length + 1,
+        end: n,
+    }
+}
+
+// A state by its number among those found, counted from 1, and how many codes lead to it.
+struct First {
+    number: usize,
+    length: usize,
+}
+
+// The first state found that has the decision, which the start has not; its number is 0 if no state has it.
 fn first_state(
     book: &[u8],
     width: usize,
@@ -93,23 +120,31 @@ fn first_state(
     order: &mut [u8],
     trail: &mut [u8],
     numbers: &mut [u8],
-) -> usize
+) -> First
     requires { ⌜ Sought (now book) width decision × (isSought (now book) decision 1 ≡ false) ⌝ }
     requires { ⌜ EmptyArrays (Book.states (now book)) (now order) (now trail) (now numbers) ⌝ }
-    ensures { λ r. ⌜ FirstState (now (book .entry)) decision r (now (order .exit)) (now (trail .exit)) ⌝ }
+    ensures { λ r. ⌜ FirstState (now (book .entry)) decision (r .number) (r .length) (now (order .exit)) (now (trail .exit)) ⌝ }
 {
     begin(order, numbers);
     let mut n = 1;
     let mut i = 0;
+    let mut level = Level { length: 0, end: 1 };
     while i < n {
         let visited = visit_for(book, width, decision, order, trail, numbers, n, i);
         n = visited.found;
         if visited.hit {
-            return n;
+            return First {
+                number: n,
+                length: level.length + 1,
+            };
         }
         i += 1;
+        level = next_level(level, i, n);
     }
-    0
+    First {
+        number: 0,
+        length: 0,
+    }
 }
 
 // The way, where the start has not the decision; `order`, `trail` and `numbers` are room for the search.
@@ -126,11 +161,12 @@ fn show_in(
     requires { ⌜ EmptyArrays (Book.states (now book)) (now order) (now trail) (now numbers) ⌝ }
     ensures { λ r. ⌜ Shows (now (book .entry)) decision r (now (history .entry)) (now (history .exit)) ⌝ }
 {
-    let number = first_state(book, width, decision, order, trail, numbers);
-    if number == 0 {
+    let first = first_state(book, width, decision, order, trail, numbers);
+    if first.number == 0 {
         return Shown::NoHistory;
     }
-    Shown::After(write_history(trail, number - 1, history))
+    write_codes(trail, first.number - 1, first.length, history);
+    Shown::After(first.length)
 }
 
 // The same with room for few states, which is sooner cleared.

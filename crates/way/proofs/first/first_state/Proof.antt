@@ -11,11 +11,12 @@ use Rattle.way.proofs.first.first_state.Statement.{statement}
 use Rattle.way.proofs.first.first_state.Tie as tie
 
 abbrev Inv-loop : tie.InvT-loop
-Inv-loop book width decision order₀ trail₀ numbers₀ n₀ i₀ order trail numbers n i =
-    SearchedFor book decision n i order trail numbers × (length order ≡ length order₀) × (length trail ≡ length trail₀) × (length numbers ≡ length numbers₀) × (states book < length numbers)
+Inv-loop book width decision order₀ trail₀ numbers₀ n₀ i₀ level₀ order trail numbers n i level =
+    SearchedFor book decision n i (level .length) (level .end) order trail numbers
+    × (length order ≡ length order₀) × (length trail ≡ length trail₀) × (length numbers ≡ length numbers₀) × (states book < length numbers)
 
 abbrev μ-loop : tie.MeasureT-loop
-μ-loop book width decision order₀ trail₀ numbers₀ n₀ i₀ order trail numbers n i = 128 - i
+μ-loop book width decision order₀ trail₀ numbers₀ n₀ i₀ level₀ order trail numbers n i level = 128 - i
 
 few : (c : tie.Else1 Inv-loop μ-loop) → c .before .before .before .before .before .before .before .before .before .before .before .before .loop .n ≤ 127
 few c = found-few _ _ (c .before .before .before .before .before .before .before .before .before .before .before .before .before .before .before .before .before .before .before .before .before .before .before .before .pre .0 .0 .passed) (c .before .before .before .before .before .before .before .before .before .before .before .before .loop .inv .0)
@@ -35,6 +36,11 @@ visit-for-requires c κs =
     let l = c .before .before .before .before .loop in
     ((p, l .inv .0 .none), (can-visit _ _ (p .passed) (l .inv .0) (c .before .before .before .loop-test .taken), (l .inv .0 .turn .are, l .inv .4)))
 
+add-t23 : tie.Need-add-t23 Inv-loop μ-loop
+add-t23 c =
+    let l = c .before .before .before .before .before .before .before .before .before .before .before .before .before .loop in
+    omega (arith, l .inv .0 .level .few, c .before .before .before .before .before .before .before .before .before .before .before .before .loop-test .taken, found-few _ _ (c .before .before .before .before .before .before .before .before .before .before .before .before .before .before .before .before .before .before .before .before .before .before .before .before .before .pre .0 .0 .passed) (l .inv .0))
+
 same-length : tie.Need-same-length Inv-loop μ-loop
 same-length c = search needs
 
@@ -46,21 +52,25 @@ same-length-3 c = search needs
 
 returns : tie.Need-returns Inv-loop μ-loop
 returns c =
-    let p = c .before .before .before .before .before .before .before .before .before .before .before .before .before .before .before .before .before .before .before .before .before .before .before .before .pre .0 .0 in
-    here _ _ (p .passed) (c .before .before .before .before .before .before .before .before .before .before .before .before .loop .inv .0) (c .before .before .before .before .before .before .before .before .before .before .before .loop-test .taken) (c .before .before .before .before .before .before .before .visit-for .ensures) (c .if1 .taken)
+    let p = c .before .before .before .before .before .before .before .before .before .before .before .before .before .before .before .before .before .before .before .before .before .before .before .before .before .pre .0 .0 in
+    here _ _ (p .passed) (c .before .before .before .before .before .before .before .before .before .before .before .before .before .loop .inv .0) (c .before .before .before .before .before .before .before .before .before .before .before .before .loop-test .taken) (c .before .before .before .before .before .before .before .before .visit-for .ensures) (c .before .if1 .taken)
 
 add-i : tie.Need-add-i Inv-loop μ-loop
 add-i c = omega (arith, few c, c .before .before .before .before .before .before .before .before .before .before .before .loop-test .taken)
 
+next-level-requires : tie.Need-next-level-requires Inv-loop μ-loop
+next-level-requires c κs = omega (arith, few c, c .before .before .before .before .before .before .before .before .before .before .before .loop-test .taken, c .before .before .before .before .before .before .before .before .before .before .before .before .loop .inv .0 .level .few)
+
 loop-less : tie.Need-loop-less Inv-loop μ-loop
-loop-less c = omega (arith, few c, c .before .before .before .before .before .before .before .before .before .before .before .loop-test .taken)
+loop-less c = omega (arith, few (c .before), c .before .before .before .before .before .before .before .before .before .before .before .before .loop-test .taken)
 
 loop-again : tie.Need-loop-again Inv-loop μ-loop
 loop-again c =
-    let p = c .before .before .before .before .before .before .before .before .before .before .before .before .before .before .before .before .before .before .before .before .before .before .before .before .pre .0 .0 in
-    let l = c .before .before .before .before .before .before .before .before .before .before .before .before .loop in
-    let turned = further _ _ (p .passed) (l .inv .0) (c .before .before .before .before .before .before .before .before .before .before .before .loop-test .taken) (c .before .before .before .before .before .before .before .visit-for .ensures) (c .if1 .left) in
-    (turned, search needs, search needs, search needs, omega (arith, l .inv .4))
+    let p = c .before .before .before .before .before .before .before .before .before .before .before .before .before .before .before .before .before .before .before .before .before .before .before .before .before .pre .0 .0 in
+    let l = c .before .before .before .before .before .before .before .before .before .before .before .before .before .loop in
+    let e = c .next-level .ensures in
+    let turned = further _ _ (p .passed) (l .inv .0) (c .before .before .before .before .before .before .before .before .before .before .before .before .loop-test .taken) (c .before .before .before .before .before .before .before .before .visit-for .ensures) (c .before .if1 .left) in
+    (rw (e .0, e .1) turned, search needs, search needs, search needs, omega (arith, l .inv .4))
 
 same-length-4 : tie.Need-same-length-4 Inv-loop μ-loop
 same-length-4 c = search needs
@@ -83,11 +93,13 @@ first-state-spec =
     begin-requires
     loop-holds
     visit-for-requires
+    add-t23
     same-length
     same-length-2
     same-length-3
     returns
     add-i
+    next-level-requires
     loop-less
     loop-again
     same-length-4

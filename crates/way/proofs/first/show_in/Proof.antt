@@ -19,16 +19,16 @@ same-length-3 : tie.Need-same-length-3
 same-length-3 c = search needs
 
 returns : tie.Need-returns
-returns c = shows-none _ _ _ (c .before .before .before .before .before .before .before .first-state .ensures) (c .if1 .taken) (now (c .before .before .before .before .before .before .before .before .before .before .before .before .before .before .before .before .args .history))
+returns c = shows-none _ _ _ (c .before .before .before .before .before .before .before .before .first-state .ensures) (c .if1 .taken) (now (c .before .before .before .before .before .before .before .before .before .before .before .before .before .before .before .before .before .args .history))
 
-sub-write-history : tie.Need-sub-write-history
-sub-write-history c = search needs
+sub-write-codes : tie.Need-sub-write-codes
+sub-write-codes c = search needs
 
-write-history-requires : tie.Need-write-history-requires
-write-history-requires c κs =
-    let p = c .before .before .before .before .before .before .before .before .before .before .before .before .before .before .before .before .before .before .pre in
-    let f = c .before .before .before .before .before .before .before .before .before .first-state in
-    shows-asks _ _ _ (f .ensures) (c .before .before .if1 .left) _ _ (p .1 .enough) (omega (arith, p .1 .roomTrail, f .kept .1)) (omega (arith, p .0 .0 .passed .layout .header .statesMost, p .0 .2))
+write-codes-requires : tie.Need-write-codes-requires
+write-codes-requires c κs =
+    let p = c .before .before .before .before .before .before .before .before .before .before .before .before .before .before .before .before .before .before .before .before .pre in
+    let f = c .before .before .before .before .before .before .before .before .before .before .before .first-state in
+    shows-asks _ _ _ _ (f .ensures) (c .before .before .before .if1 .left) _ _ (p .1 .enough) (omega (arith, p .1 .roomTrail, f .kept .1)) (omega (arith, p .0 .0 .passed .layout .header .statesMost, p .0 .2))
 
 same-length-4 : tie.Need-same-length-4
 same-length-4 c = search needs
@@ -43,9 +43,7 @@ same-length-7 : tie.Need-same-length-7
 same-length-7 c = search needs
 
 returns-2 : tie.Need-returns-2
-returns-2 c =
-    let e = c .before .before .write-history .ensures in
-    shows-found _ _ _ _ (now (c .before .before .before .before .before .before .before .before .before .before .before .before .before .before .before .before .before .before .before .before .before .args .history)) _ (c .before .before .before .before .before .before .before .before .before .before .before .before .first-state .ensures) (c .before .before .before .before .before .if1 .left) (e .0) (e .1)
+returns-2 c = shows-found _ _ _ _ (now (c .before .before .before .before .before .before .before .before .before .before .before .before .before .before .before .before .before .before .before .before .before .before .before .args .history)) _ (c .before .before .before .before .before .before .before .before .before .before .before .before .before .before .first-state .ensures) (c .before .before .before .before .before .before .if1 .left) (c .before .before .write-codes .ensures)
 
 pub show-in-spec : {M : Type 1} → statement M
 show-in-spec =
@@ -56,8 +54,8 @@ show-in-spec =
     same-length-2
     same-length-3
     returns
-    sub-write-history
-    write-history-requires
+    sub-write-codes
+    write-codes-requires
     same-length-4
     same-length-5
     same-length-6
