@@ -55,6 +55,14 @@ front-at {found} f k l = ap (λ (xs : List Reached). getD xs k unreached) (f .wh
 pub front-length : {found more : List Reached} → Front found more → length found ≤ length more
 front-length {found} {more} f = omega (arith, ap length (f .whole) ∙ length-append found (f .rest))
 
+-- where there are no more, it is all
+pub front-same : {found more : List Reached} → Front found more → length more ≤ length found → more ≡ found
+front-same {found} {more} f few = go (f .rest) (f .whole)
+  where
+    go : (rest : List Reached) → more ≡ found ++ rest → more ≡ found
+    go [] e = e ∙ append-nil found
+    go (x ∷ rest) e = absurd (omega (arith, ap length e ∙ length-append found (x ∷ rest)))
+
 front-number : {found more : List Reached} → Front found more → (s k : ℕ) → numberIn found s ≡ suc k → numberIn more s ≡ suc k
 front-number {found} f s k e = ap (λ (xs : List Reached). numberIn xs s) (f .whole) ∙ number-append found (f .rest) s k e
 

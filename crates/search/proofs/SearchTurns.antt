@@ -9,7 +9,7 @@ use lib.Seq.{getD-set-same, getD-set-other}
 use borrow.Author.Tests.{ne-eqb}
 use Rattle.automaton.specs.Machine.{Machine}
 use Rattle.automaton.specs.Explore.{Reached, add, visit, unreached, startOf, reached}
-use Rattle.automaton.proofs.Explore.{Front, front-trans, front-at, front-length, visit-front}
+use Rattle.automaton.proofs.Explore.{Front, front-trans, front-at, front-length, front-same, visit-front}
 use Rattle.automaton.proofs.Parents.{trail-start}
 use Rattle.automaton.proofs.RemainingSearch.{visit-grows, Remains, remains-begun, remains-turn, remains-front, remains-done}
 use Rattle.definitions.specs.Bytes.{byte}
@@ -161,6 +161,11 @@ module _ (rows : List ℕ) (w : ℕ) (small : SmallTable rows w) {n i : ℕ} {or
   searched-done l =
       subst (λ (L : List Reached). Arrays L n order trail numbers)
       (remains-done (rowsMachine rows w) 127 (statesOf rows w) i found (omega (arith, found-length order trail n)) (S .come)) (S .are)
+
+  -- where as many states are found as there are rows, all are
+  pub searched-all : length rows / w ≤ n → Arrays (statesOf rows w) n order trail numbers
+  searched-all l =
+      subst (λ (L : List Reached). Arrays L n order trail numbers) (sym (front-same front (omega (arith, states-few rows w small, found-length order trail n)))) (S .are)
 
   module _ (b : i < n) where
     here : getD found i unreached ≡ reachedAt order trail i

@@ -16,10 +16,10 @@ use Rattle.definitions.specs.Book.{width, states}
 use Rattle.definitions.specs.Checked.{BookPassed}
 use Rattle.definitions.specs.Verdict.{statesReached}
 use Rattle.search.specs.Trail.{firstAt, historyAt}
-use Rattle.search.specs.Found.{SmallTable, rowsMachine, statesOf, bookStates, reachedAt, foundIn, EmptyArrays, CanVisit}
+use Rattle.search.specs.Found.{SmallTable, rowsMachine, statesOf, bookStates, reachedAt, foundIn, Arrays, EmptyArrays, CanVisit}
 use Rattle.search.proofs.Found.{found-length, holds-length}
 use Rattle.search.proofs.FirstFound.{none-below, first-below, first-of-front}
-use Rattle.search.proofs.SearchTurns.{SearchTurn, searched-begun, searched-few, searched-next, searched-front, searched-turn, searched-done}
+use Rattle.search.proofs.SearchTurns.{SearchTurn, searched-begun, searched-few, searched-next, searched-front, searched-turn, searched-done, searched-all}
 use Rattle.search.proofs.TableRows.{book-rows, book-count, book-states, states-few}
 use Rattle.way.specs.FirstState.{rowsOf, isSought, NoneBelow, OnlyLast, VisitedFor, AtLevel, nextLength, nextEnd, FirstState}
 use Rattle.way.proofs.Levels.{level-begun, level-visited, level-next}
@@ -54,15 +54,19 @@ module _ (b : List ℕ) (d : Decision) (ok : BookPassed b) where
     pub found-few : n ≤ 127
     found-few = searched-few (rowsOf b) (width b) small (S .turn)
 
-    -- every state has been visited
-    pub nowhere : n ≤ i → FirstState b d 0 0 order trail
+    -- every state has been found
+    nowhere : Arrays (statesOf (rowsOf b) (width b)) n order trail numbers → FirstState b d 0 0 order trail
     unfolding foundIn
-    nowhere l =
-        let are = searched-done (rowsOf b) (width b) small (S .turn) l .holds .are in
-        record {
-          nowhere = λ e. ap (firstThat (isSought b d)) (sym all-reached ∙ sym are) ∙ none-below (isSought b d) (reachedAt order trail) n (S .none);
-          somewhere = λ k e. absurd (omega arith);
-        }
+    nowhere all = record {
+      nowhere = λ e. ap (firstThat (isSought b d)) (sym all-reached ∙ sym (all .holds .are)) ∙ none-below (isSought b d) (reachedAt order trail) n (S .none);
+      somewhere = λ k e. absurd (omega arith);
+    }
+
+    pub all-visited : n ≤ i → FirstState b d 0 0 order trail
+    all-visited l = nowhere (searched-done (rowsOf b) (width b) small (S .turn) l)
+
+    pub all-found : states b ≤ n → FirstState b d 0 0 order trail
+    all-found l = nowhere (searched-all (rowsOf b) (width b) small (S .turn) (omega (arith, book-count b ok)))
 
     module _ (l : i < n) where
       pub can-visit : CanVisit (rowsOf b) (width b) order trail n i

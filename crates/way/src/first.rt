@@ -12,6 +12,7 @@ use crate::decision::Decision;
 use crate::decision::has_outcome;
 use automaton::wide;
 use book::entry;
+use book::states;
 use search::begin;
 use search::note;
 use search::write_codes;
@@ -112,7 +113,7 @@ struct First {
     length: usize,
 }
 
-// The first state found that has the decision, which the start has not; its number is 0 if no state has it.
+// The first state found that has the decision, which the start has not; its number is 0 if no state has it. Where all states are found the search is over.
 fn first_state(
     book: &[u8],
     width: usize,
@@ -126,10 +127,17 @@ fn first_state(
     ensures { λ r. ⌜ FirstState (now (book .entry)) decision (r .number) (r .length) (now (order .exit)) (now (trail .exit)) ⌝ }
 {
     begin(order, numbers);
+    let all = states(book);
     let mut n = 1;
     let mut i = 0;
     let mut level = Level { length: 0, end: 1 };
     while i < n {
+        if all <= n {
+            return First {
+                number: 0,
+                length: 0,
+            };
+        }
         let visited = visit_for(book, width, decision, order, trail, numbers, n, i);
         n = visited.found;
         if visited.hit {

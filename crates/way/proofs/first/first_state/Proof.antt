@@ -6,40 +6,32 @@ use denote.Ref.{now}
 use lib.ListN.{length, length-set}
 use borrow.Author.Needs.{needs}
 use Rattle.definitions.specs.Book.{states}
-use Rattle.way.proofs.FirstStates.{SearchedFor, begun, found-few, can-visit, further, here, nowhere}
+use Rattle.way.proofs.FirstStates.{SearchedFor, begun, found-few, can-visit, further, here, all-visited, all-found}
 use Rattle.way.proofs.first.first_state.Statement.{statement}
 use Rattle.way.proofs.first.first_state.Tie as tie
 
 abbrev Inv-loop : tie.InvT-loop
-Inv-loop book width decision order₀ trail₀ numbers₀ n₀ i₀ level₀ order trail numbers n i level =
+Inv-loop book width decision order₀ trail₀ numbers₀ all n₀ i₀ level₀ order trail numbers n i level =
     SearchedFor book decision n i (level .length) (level .end) order trail numbers
     × (length order ≡ length order₀) × (length trail ≡ length trail₀) × (length numbers ≡ length numbers₀) × (states book < length numbers)
 
 abbrev μ-loop : tie.MeasureT-loop
-μ-loop book width decision order₀ trail₀ numbers₀ n₀ i₀ level₀ order trail numbers n i level = 128 - i
+μ-loop book width decision order₀ trail₀ numbers₀ all n₀ i₀ level₀ order trail numbers n i level = 128 - i
 
-few : (c : tie.Else1 Inv-loop μ-loop) → c .before .before .before .before .before .before .before .before .before .before .before .before .loop .n ≤ 127
-few c = found-few _ _ (c .before .before .before .before .before .before .before .before .before .before .before .before .before .before .before .before .before .before .before .before .before .before .before .before .pre .0 .0 .passed) (c .before .before .before .before .before .before .before .before .before .before .before .before .loop .inv .0)
+few : (c : tie.Else2 Inv-loop μ-loop) → c .before .before .before .before .before .before .before .before .before .before .before .before .before .loop .n ≤ 127
+few c = found-few _ _ (c .before .before .before .before .before .before .before .before .before .before .before .before .before .before .before .before .before .before .before .before .before .before .before .before .before .before .pre .0 .0 .passed) (c .before .before .before .before .before .before .before .before .before .before .before .before .before .loop .inv .0)
 
 begin-requires : tie.Need-begin-requires Inv-loop μ-loop
 begin-requires c κs = search needs
 
+states-requires : tie.Need-states-requires Inv-loop μ-loop
+states-requires c κs = search needs
+
 loop-holds : tie.Need-loop-holds Inv-loop μ-loop
 loop-holds c =
-    let s = c .before .before .before .before .before .before .before .before .before .before .before in
-    let e = c .before .before .before .before .begin .ensures in
+    let s = c .before .before .before .before .before .before .before .before .before .before .before .before in
+    let e = c .before .before .before .before .before .begin .ensures in
     (rw (e .0, e .1) (begun _ _ (s .pre .0 .0 .passed) (now (s .args .order)) _ (now (s .args .numbers)) (s .pre .1) (s .pre .0 .1)), refl, refl, refl, rw (e .1) (simp length-set (s .pre .1 .enough)))
-
-visit-for-requires : tie.Need-visit-for-requires Inv-loop μ-loop
-visit-for-requires c κs =
-    let p = c .before .before .before .before .before .before .before .before .before .before .before .before .before .before .before .before .pre .0 .0 in
-    let l = c .before .before .before .before .loop in
-    ((p, l .inv .0 .none), (can-visit _ _ (p .passed) (l .inv .0) (c .before .before .before .loop-test .taken), (l .inv .0 .turn .are, l .inv .4)))
-
-add-t23 : tie.Need-add-t23 Inv-loop μ-loop
-add-t23 c =
-    let l = c .before .before .before .before .before .before .before .before .before .before .before .before .before .loop in
-    omega (arith, l .inv .0 .level .few, c .before .before .before .before .before .before .before .before .before .before .before .before .loop-test .taken, found-few _ _ (c .before .before .before .before .before .before .before .before .before .before .before .before .before .before .before .before .before .before .before .before .before .before .before .before .before .pre .0 .0 .passed) (l .inv .0))
 
 same-length : tie.Need-same-length Inv-loop μ-loop
 same-length c = search needs
@@ -51,26 +43,18 @@ same-length-3 : tie.Need-same-length-3 Inv-loop μ-loop
 same-length-3 c = search needs
 
 returns : tie.Need-returns Inv-loop μ-loop
-returns c =
-    let p = c .before .before .before .before .before .before .before .before .before .before .before .before .before .before .before .before .before .before .before .before .before .before .before .before .before .pre .0 .0 in
-    here _ _ (p .passed) (c .before .before .before .before .before .before .before .before .before .before .before .before .before .loop .inv .0) (c .before .before .before .before .before .before .before .before .before .before .before .before .loop-test .taken) (c .before .before .before .before .before .before .before .before .visit-for .ensures) (c .before .if1 .taken)
+returns c = all-found _ _ (c .before .before .before .before .before .before .before .before .before .before .before .before .before .before .before .pre .0 .0 .passed) (c .before .before .loop .inv .0) (omega (arith, c .if1 .taken, c .before .before .before .states .ensures))
 
-add-i : tie.Need-add-i Inv-loop μ-loop
-add-i c = omega (arith, few c, c .before .before .before .before .before .before .before .before .before .before .before .loop-test .taken)
+visit-for-requires : tie.Need-visit-for-requires Inv-loop μ-loop
+visit-for-requires c κs =
+    let p = c .before .before .before .before .before .before .before .before .before .before .before .before .before .before .before .before .before .before .pre .0 .0 in
+    let l = c .before .before .before .before .before .loop in
+    ((p, l .inv .0 .none), (can-visit _ _ (p .passed) (l .inv .0) (c .before .before .before .before .loop-test .taken), (l .inv .0 .turn .are, l .inv .4)))
 
-next-level-requires : tie.Need-next-level-requires Inv-loop μ-loop
-next-level-requires c κs = omega (arith, few c, c .before .before .before .before .before .before .before .before .before .before .before .loop-test .taken, c .before .before .before .before .before .before .before .before .before .before .before .before .loop .inv .0 .level .few)
-
-loop-less : tie.Need-loop-less Inv-loop μ-loop
-loop-less c = omega (arith, few (c .before), c .before .before .before .before .before .before .before .before .before .before .before .before .loop-test .taken)
-
-loop-again : tie.Need-loop-again Inv-loop μ-loop
-loop-again c =
-    let p = c .before .before .before .before .before .before .before .before .before .before .before .before .before .before .before .before .before .before .before .before .before .before .before .before .before .pre .0 .0 in
-    let l = c .before .before .before .before .before .before .before .before .before .before .before .before .before .loop in
-    let e = c .next-level .ensures in
-    let turned = further _ _ (p .passed) (l .inv .0) (c .before .before .before .before .before .before .before .before .before .before .before .before .loop-test .taken) (c .before .before .before .before .before .before .before .before .visit-for .ensures) (c .before .if1 .left) in
-    (rw (e .0, e .1) turned, search needs, search needs, search needs, omega (arith, l .inv .4))
+add-t24 : tie.Need-add-t24 Inv-loop μ-loop
+add-t24 c =
+    let l = c .before .before .before .before .before .before .before .before .before .before .before .before .before .before .loop in
+    omega (arith, l .inv .0 .level .few, c .before .before .before .before .before .before .before .before .before .before .before .before .before .loop-test .taken, found-few _ _ (c .before .before .before .before .before .before .before .before .before .before .before .before .before .before .before .before .before .before .before .before .before .before .before .before .before .before .before .pre .0 .0 .passed) (l .inv .0))
 
 same-length-4 : tie.Need-same-length-4 Inv-loop μ-loop
 same-length-4 c = search needs
@@ -82,7 +66,38 @@ same-length-6 : tie.Need-same-length-6 Inv-loop μ-loop
 same-length-6 c = search needs
 
 returns-2 : tie.Need-returns-2 Inv-loop μ-loop
-returns-2 c = nowhere _ _ (c .before .before .before .before .before .before .before .before .before .before .before .before .before .pre .0 .0 .passed) (c .before .loop .inv .0) (c .loop-test .left)
+returns-2 c =
+    let p = c .before .before .before .before .before .before .before .before .before .before .before .before .before .before .before .before .before .before .before .before .before .before .before .before .before .before .before .pre .0 .0 in
+    here _ _ (p .passed) (c .before .before .before .before .before .before .before .before .before .before .before .before .before .before .loop .inv .0) (c .before .before .before .before .before .before .before .before .before .before .before .before .before .loop-test .taken) (c .before .before .before .before .before .before .before .before .visit-for .ensures) (c .before .if2 .taken)
+
+add-i : tie.Need-add-i Inv-loop μ-loop
+add-i c = omega (arith, few c, c .before .before .before .before .before .before .before .before .before .before .before .before .loop-test .taken)
+
+next-level-requires : tie.Need-next-level-requires Inv-loop μ-loop
+next-level-requires c κs = omega (arith, few c, c .before .before .before .before .before .before .before .before .before .before .before .before .loop-test .taken, c .before .before .before .before .before .before .before .before .before .before .before .before .before .loop .inv .0 .level .few)
+
+loop-less : tie.Need-loop-less Inv-loop μ-loop
+loop-less c = omega (arith, few (c .before), c .before .before .before .before .before .before .before .before .before .before .before .before .before .loop-test .taken)
+
+loop-again : tie.Need-loop-again Inv-loop μ-loop
+loop-again c =
+    let p = c .before .before .before .before .before .before .before .before .before .before .before .before .before .before .before .before .before .before .before .before .before .before .before .before .before .before .before .pre .0 .0 in
+    let l = c .before .before .before .before .before .before .before .before .before .before .before .before .before .before .loop in
+    let e = c .next-level .ensures in
+    let turned = further _ _ (p .passed) (l .inv .0) (c .before .before .before .before .before .before .before .before .before .before .before .before .before .loop-test .taken) (c .before .before .before .before .before .before .before .before .visit-for .ensures) (c .before .if2 .left) in
+    (rw (e .0, e .1) turned, search needs, search needs, search needs, omega (arith, l .inv .4))
+
+same-length-7 : tie.Need-same-length-7 Inv-loop μ-loop
+same-length-7 c = search needs
+
+same-length-8 : tie.Need-same-length-8 Inv-loop μ-loop
+same-length-8 c = search needs
+
+same-length-9 : tie.Need-same-length-9 Inv-loop μ-loop
+same-length-9 c = search needs
+
+returns-3 : tie.Need-returns-3 Inv-loop μ-loop
+returns-3 c = all-visited _ _ (c .before .before .before .before .before .before .before .before .before .before .before .before .before .before .pre .0 .0 .passed) (c .before .loop .inv .0) (c .loop-test .left)
 
 pub first-state-spec : {M : Type 1} → statement M
 first-state-spec =
@@ -91,18 +106,23 @@ first-state-spec =
     Inv-loop
     μ-loop
     begin-requires
+    states-requires
     loop-holds
-    visit-for-requires
-    add-t23
     same-length
     same-length-2
     same-length-3
     returns
+    visit-for-requires
+    add-t24
+    same-length-4
+    same-length-5
+    same-length-6
+    returns-2
     add-i
     next-level-requires
     loop-less
     loop-again
-    same-length-4
-    same-length-5
-    same-length-6
-    returns-2)
+    same-length-7
+    same-length-8
+    same-length-9
+    returns-3)
