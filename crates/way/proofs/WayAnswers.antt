@@ -1,11 +1,12 @@
--- The rows of a call judged in order (row 1 for the buffer, those of the book, 18, 16), and its answer and its buffer.
-use mathlib.Core.Path.{_≡_, sym, _∙_}
+-- The rows of a call judged in order (row 1 for the buffer, those of the book, 18, 16), and its answer and its buffer. The contract of `way` leaves nothing free: what is
+-- returned is told by the definitions' answer, and a history's length is what `After` holds.
+use mathlib.Core.Path.{_≡_, sym, ap, _∙_}
 use mathlib.Core.List.{List}
-use mathlib.Core.Option.{Option, some}
+use mathlib.Core.Option.{Option, none, some}
 use Prim.Native.Nat.{ℕ, _≤_, _<_}
 use native.Mathlib.Omega.{arith}
 use lib.Dec.{leb, ltb}
-use lib.ListN.{length}
+use lib.ListN.{length, take}
 use borrow.Author.Tests.{le-leb, lt-leb, leb-true, lt-ltb, le-ltb, ne-eqb}
 use Rattle.automaton.specs.History.{History}
 use Rattle.definitions.specs.Answer.{Answer, refused, given, written, historyBytes, judge, thenJudge}
@@ -14,8 +15,12 @@ use Rattle.definitions.specs.Refusal.{bookRefusal}
 use Rattle.definitions.specs.Way.{way, wayRefusal, wayAnswer, wayBuffer}
 use Rattle.definitions.proofs.Accepted.{book-passed}
 use Rattle.definitions.proofs.Tests.{judge-zero, then-judge-zero}
-use Rattle.definitions.proofs.Answers.{refused-answer, given-answer, answer-given, refused-buffer, given-buffer}
+use Rattle.definitions.proofs.Answers.{refused-answer, given-answer, answer-given, refused-buffer, given-buffer, no-shorter}
+use Rattle.definitions.proofs.Written.{length-taken}
 use Rattle.definitions.proofs.Demands.{ways-right}
+use Rattle.way.specs.ShownAnswer.{shownAnswer}
+use Rattle.way.specs.declared.first.Shown.{Shown}
+use Rattle.way.specs.declared.first.Shown.the-variants.{Refused, NoHistory, After}
 
 module _ (b : List ℕ) (r outcome : ℕ) (buffer : List ℕ) where
   -- ---- the rows
@@ -69,3 +74,21 @@ way-small b r outcome buffer h e =
     let passes = not-refused b r outcome buffer (is .0) in
     let short = ways-right b (passes .1) .short r outcome h (sym (is .1)) in
     (omega (arith, short, book-passed b .0 (passes .1) .layout .header .statesMost), passes .0)
+
+-- ---- nothing is free
+abbrev pub shownOf : Answer (Option History) → Shown
+shownOf (refused number) = Refused number
+shownOf (given none) = NoHistory
+shownOf (given (some h)) = After (length h)
+
+buffer-no-shorter : (b : List ℕ) (r outcome : ℕ) (buffer : List ℕ) → length buffer ≤ length (wayBuffer b r outcome buffer)
+unfolding wayBuffer
+buffer-no-shorter b r outcome buffer = no-shorter (wayRefusal b r outcome buffer) (historyBytes (way b r outcome)) buffer
+
+pub shown-is : (b : List ℕ) (r outcome : ℕ) (buffer after : List ℕ) (shown : Shown) → shownAnswer shown after ≡ wayAnswer b r outcome buffer
+    → after ≡ wayBuffer b r outcome buffer → shown ≡ shownOf (wayAnswer b r outcome buffer)
+shown-is b r outcome buffer after (Refused number) e ea = ap shownOf e
+shown-is b r outcome buffer after NoHistory e ea = ap shownOf e
+shown-is b r outcome buffer after (After n) e ea =
+    let small = way-small b r outcome buffer (take n after) e in
+    ap After (sym (length-taken n after (omega (arith, buffer-no-shorter b r outcome buffer, ap length ea)))) ∙ ap shownOf e
