@@ -18,8 +18,7 @@ use Rattle.definitions.proofs.Written.{written-read}
 use Rattle.search.specs.Trail.{firstAt, historyAt}
 use Rattle.search.specs.Found.{reachedAt}
 use Rattle.search.proofs.FirstFound.{first-of-front}
-use Rattle.way.specs.FirstState.{isSought, FirstState}
-use Rattle.way.specs.ShownAnswer.{Shows}
+use Rattle.way.specs.FirstState.{isSought, FirstState, Shows}
 use Rattle.way.specs.declared.decision.Decision.{Decision}
 use Rattle.way.specs.declared.first.Shown.the-variants.{NoHistory, After}
 

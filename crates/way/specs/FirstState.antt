@@ -1,4 +1,4 @@
--- The search for the first state with a decision: what a visit leaves that ends where such a state is found, and what the search leaves.
+-- The search for the first state with a decision: what a visit leaves that ends where such a state is found, what the search leaves, and what is shown then.
 use mathlib.Core.Path.{_≡_}
 use mathlib.Core.Bool.{Bool, true, false, cond}
 use mathlib.Core.List.{List}
@@ -8,14 +8,17 @@ use lib.Dec.{ltb}
 use lib.ListN.{length, drop}
 use Rattle.automaton.specs.Explore.{Reached, visit, firstThat}
 use Rattle.automaton.specs.Parents.{EarlierParents}
+use Rattle.definitions.specs.Answer.{given, written, historyBytes}
 use Rattle.definitions.specs.Bytes.{byte}
 use Rattle.definitions.specs.Book.{width, requests, states}
 use Rattle.definitions.specs.Checked.{BookPassed}
 use Rattle.definitions.specs.Verdict.{statesReached}
-use Rattle.definitions.specs.Way.{hasOutcome}
+use Rattle.definitions.specs.Way.{hasOutcome, way}
 use Rattle.search.specs.Trail.{firstAt, historyAt}
 use Rattle.search.specs.Found.{rowsMachine, reachedAt, foundIn, Arrays}
+use Rattle.way.specs.ShownAnswer.{shownAnswer}
 use Rattle.way.specs.declared.decision.Decision.{Decision}
+use Rattle.way.specs.declared.first.Shown.{Shown}
 
 -- the rows of a book
 abbrev pub rowsOf : List ℕ → List ℕ
@@ -72,3 +75,8 @@ pub record FirstState (b : List ℕ) (d : Decision) (number codes : ℕ) (order 
   pub nowhere : number ≡ 0 → firstThat (isSought b d) (statesReached b) ≡ none
   pub somewhere : (k : ℕ) → number ≡ suc k → (firstThat (isSought b d) (statesReached b) ≡ some (reachedAt order trail k))
       × (k < states b) × EarlierParents (suc k) (firstAt trail) × (codes ≡ length (historyAt trail k))
+
+-- what is returned, and the buffer before and after: the way to the decision is shown
+abbrev pub Shows : List ℕ → Decision → Shown → List ℕ → List ℕ → Type 0
+Shows b d shown before after =
+    (shownAnswer shown after ≡ given (way b (d .request) (d .outcome))) × (after ≡ written (historyBytes (way b (d .request) (d .outcome))) before)

@@ -1,3 +1,3 @@
 -- The definitions that the contracts of `way` cite.
-pub mod FirstState
 pub mod ShownAnswer
+pub mod FirstState

@@ -6,8 +6,7 @@ ghost use lib.Dec.{ltb};
 ghost use lib.ListN.{length};
 ghost use Rattle.definitions.specs.Book as Book;
 ghost use Rattle.search.specs.Found.{foundIn, Arrays, EmptyArrays, CanVisit};
-ghost use Rattle.way.specs.FirstState.{rowsOf, Sought, isSought, NoneBelow, VisitedFor, nextLength, nextEnd, FirstState};
-ghost use Rattle.way.specs.ShownAnswer.{Shows};
+ghost use Rattle.way.specs.FirstState.{rowsOf, Sought, isSought, NoneBelow, VisitedFor, nextLength, nextEnd, FirstState, Shows};
 use crate::decision::Decision;
 use crate::decision::has_outcome;
 use automaton::wide;
@@ -17,7 +16,7 @@ use search::begin;
 use search::note;
 use search::write_codes;
 
-// What a way is: the number of the row that refuses the call, that no history leads there, or how many codes the earliest has.
+// What `way` returns: the number of the row that refuses the call, that no history leads there, or how many codes the earliest one has.
 pub enum Shown {
     Refused(usize),
     NoHistory,

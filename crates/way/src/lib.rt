@@ -4,8 +4,8 @@ ghost use mathlib.Core.Path.{_≡_};
 ghost use Prim.Native.Nat.{_≤_};
 ghost use lib.ListN.{length};
 ghost use Rattle.definitions.specs.Way.{wayAnswer, wayBuffer};
-ghost use Rattle.way.specs.FirstState.{Sought};
-ghost use Rattle.way.specs.ShownAnswer.{shownAnswer, Shows};
+ghost use Rattle.way.specs.FirstState.{Sought, Shows};
+ghost use Rattle.way.specs.ShownAnswer.{shownAnswer};
 
 mod decision;
 mod first;
