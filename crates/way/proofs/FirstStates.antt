@@ -1,4 +1,4 @@
--- The search for the first state with a decision, state by state: where a visit ends with one, it is the first of all that are reached, and where all are visited
+-- The search for the first state that is a goal, state by state: where a visit ends with one, it is the first of all that are reached, and where all are visited
 -- there is none.
 use mathlib.Core.Path.{_≡_, refl, sym, ap, _∙_, subst}
 use mathlib.Core.Bool.{Bool, true, false}
@@ -21,17 +21,17 @@ use Rattle.search.proofs.Found.{found-length, holds-length}
 use Rattle.search.proofs.FirstFound.{none-below, first-below, first-of-front}
 use Rattle.search.proofs.SearchTurns.{SearchTurn, searched-begun, searched-few, searched-next, searched-front, searched-turn, searched-done, searched-all}
 use Rattle.search.proofs.TableRows.{book-rows, book-count, book-states, states-few}
-use Rattle.way.specs.FirstState.{rowsOf, isSought, NoneBelow, OnlyLast, VisitedFor, AtLevel, nextLength, nextEnd, FirstState}
+use Rattle.way.specs.FirstState.{rowsOf, isGoal, NoneBelow, OnlyLast, VisitedFor, AtLevel, nextLength, nextEnd, FirstState}
 use Rattle.way.proofs.Levels.{level-begun, level-visited, level-next}
-use Rattle.way.specs.declared.decision.Decision.{Decision}
+use Rattle.way.specs.declared.goal.Goal.{Goal}
 
--- i states have been visited, n are found, and none of them has the decision; the level is known
-pub record SearchedFor (b : List ℕ) (d : Decision) (n i codes end : ℕ) (order trail numbers : List ℕ) : Type 0 where
+-- i states have been visited, n are found, and none of them is a goal; the level is known
+pub record SearchedFor (b : List ℕ) (g : Goal) (n i codes end : ℕ) (order trail numbers : List ℕ) : Type 0 where
   pub turn : SearchTurn (rowsOf b) (width b) n i order trail numbers
-  pub none : NoneBelow b d order n
+  pub none : NoneBelow b g order n
   pub level : AtLevel trail n i codes end
 
-module _ (b : List ℕ) (d : Decision) (ok : BookPassed b) where
+module _ (b : List ℕ) (g : Goal) (ok : BookPassed b) where
   small : SmallTable (rowsOf b) (width b)
   small = book-rows b ok
 
@@ -40,43 +40,43 @@ module _ (b : List ℕ) (d : Decision) (ok : BookPassed b) where
   all-reached = book-states b ok
 
   -- state 1 is found
-  pub begun : (order trail numbers : List ℕ) → EmptyArrays (states b) order trail numbers → isSought b d 1 ≡ false
-      → SearchedFor b d 1 0 0 1 (set order 0 1) trail (set (set numbers 0 1) 1 1)
+  pub begun : (order trail numbers : List ℕ) → EmptyArrays (states b) order trail numbers → isGoal b g 1 ≡ false
+      → SearchedFor b g 1 0 0 1 (set order 0 1) trail (set (set numbers 0 1) 1 1)
   begun order trail numbers E start = record {
     turn = searched-begun (rowsOf b) (width b) order trail numbers small (rw (book-count b ok) E);
     none = λ k l.
         let e : k ≡ 0 = omega arith in
-        rw e (ap (isSought b d) (getD-set-same order 0 1 0 (omega (arith, E .enough, E .roomOrder))) ∙ start);
+        rw e (ap (isGoal b g) (getD-set-same order 0 1 0 (omega (arith, E .enough, E .roomOrder))) ∙ start);
     level = level-begun trail;
   }
 
-  module _ {n i codes end : ℕ} {order trail numbers : List ℕ} (S : SearchedFor b d n i codes end order trail numbers) where
+  module _ {n i codes end : ℕ} {order trail numbers : List ℕ} (S : SearchedFor b g n i codes end order trail numbers) where
     pub found-few : n ≤ 127
     found-few = searched-few (rowsOf b) (width b) small (S .turn)
 
     -- every state has been found
-    nowhere : Arrays (statesOf (rowsOf b) (width b)) n order trail numbers → FirstState b d 0 0 order trail
+    nowhere : Arrays (statesOf (rowsOf b) (width b)) n order trail numbers → FirstState b g 0 0 order trail
     unfolding foundIn
     nowhere all = record {
-      nowhere = λ e. ap (firstThat (isSought b d)) (sym all-reached ∙ sym (all .holds .are)) ∙ none-below (isSought b d) (reachedAt order trail) n (S .none);
+      nowhere = λ e. ap (firstThat (isGoal b g)) (sym all-reached ∙ sym (all .holds .are)) ∙ none-below (isGoal b g) (reachedAt order trail) n (S .none);
       somewhere = λ k e. absurd (omega arith);
     }
 
-    pub all-visited : n ≤ i → FirstState b d 0 0 order trail
+    pub all-visited : n ≤ i → FirstState b g 0 0 order trail
     all-visited l = nowhere (searched-done (rowsOf b) (width b) small (S .turn) l)
 
-    pub all-found : states b ≤ n → FirstState b d 0 0 order trail
+    pub all-found : states b ≤ n → FirstState b g 0 0 order trail
     all-found l = nowhere (searched-all (rowsOf b) (width b) small (S .turn) (omega (arith, book-count b ok)))
 
     module _ (l : i < n) where
       pub can-visit : CanVisit (rowsOf b) (width b) order trail n i
       can-visit = searched-next (rowsOf b) (width b) small (S .turn) l
 
-      module _ {k : ℕ} {hit : Bool} {order′ trail′ numbers′ : List ℕ} (visited : VisitedFor b d order trail n i k hit order′ trail′ numbers′) where
+      module _ {k : ℕ} {hit : Bool} {order′ trail′ numbers′ : List ℕ} (visited : VisitedFor b g order trail n i k hit order′ trail′ numbers′) where
         level : AtLevel trail′ k i codes end
         level = level-visited (rowsMachine (rowsOf b) (width b)) (visited .tried) n i order trail (visited .are .holds) (S .level) l
 
-        pub further : hit ≡ false → SearchedFor b d k (i + 1) (nextLength codes end (i + 1)) (nextEnd end (i + 1) k) order′ trail′ numbers′
+        pub further : hit ≡ false → SearchedFor b g k (i + 1) (nextLength codes end (i + 1)) (nextEnd end (i + 1) k) order′ trail′ numbers′
         further miss = record {
           turn = searched-turn (rowsOf b) (width b) small (S .turn) l (rw (visited .missed miss .0) at (visited .are));
           none = visited .missed miss .1;
@@ -90,25 +90,25 @@ module _ (b : List ℕ) (d : Decision) (ok : BookPassed b) where
         few : k ≤ states b
         few = omega (arith, book-count b ok, states-few (rowsOf b) (width b) small, front-length front, holds-length (visited .are .holds), ap length (visited .are .holds .are))
 
-        pub here : hit ≡ true → FirstState b d k (codes + 1) order′ trail′
+        pub here : hit ≡ true → FirstState b g k (codes + 1) order′ trail′
         unfolding foundIn
         here e = record { nowhere = λ z. absurd (omega (arith, last .is)); somewhere = somewhere }
           where
-            last : OnlyLast b d order′ k
+            last : OnlyLast b g order′ k
             last = visited .found e .1
 
             codes-are : length (historyAt trail′ (last .last)) ≡ suc codes
             codes-are = level .next (last .last) (omega (arith, S .level .most, visited .found e .0, last .is)) (omega (arith, last .is))
 
-            first : firstThat (isSought b d) (foundIn k order′ trail′) ≡ some (reachedAt order′ trail′ (last .last))
-            first = first-below (isSought b d) (reachedAt order′ trail′) k (last .last) (omega (arith, last .is)) (last .has) (last .before)
+            first : firstThat (isGoal b g) (foundIn k order′ trail′) ≡ some (reachedAt order′ trail′ (last .last))
+            first = first-below (isGoal b g) (reachedAt order′ trail′) k (last .last) (omega (arith, last .is)) (last .has) (last .before)
 
-            somewhere : (j : ℕ) → k ≡ suc j → (firstThat (isSought b d) (statesReached b) ≡ some (reachedAt order′ trail′ j)) × (j < states b) × EarlierParents (suc j) (firstAt trail′)
+            somewhere : (j : ℕ) → k ≡ suc j → (firstThat (isGoal b g) (statesReached b) ≡ some (reachedAt order′ trail′ j)) × (j < states b) × EarlierParents (suc j) (firstAt trail′)
                 × (codes + 1 ≡ length (historyAt trail′ j))
             somewhere j ej =
                 let same : last .last ≡ j = omega (arith, last .is) in (
-                  ap (firstThat (isSought b d)) (sym all-reached)
-                      ∙ first-of-front (isSought b d) front (reachedAt order′ trail′ j) (first ∙ ap (λ (x : ℕ). some (reachedAt order′ trail′ x)) same),
+                  ap (firstThat (isGoal b g)) (sym all-reached)
+                      ∙ first-of-front (isGoal b g) front (reachedAt order′ trail′ j) (first ∙ ap (λ (x : ℕ). some (reachedAt order′ trail′ x)) same),
                   omega (arith, few),
                   subst (λ (x : ℕ). EarlierParents x (firstAt trail′)) ej (visited .are .holds .falls),
                   subst (λ (x : ℕ). codes + 1 ≡ length (historyAt trail′ x)) same (omega (arith, codes-are)),

@@ -1,4 +1,4 @@
--- A visit that ends where a state with the decision is found: the codes tried so far, and what one more leaves.
+-- A visit that ends where a state that is a goal is found: the codes tried so far, and what one more leaves.
 use mathlib.Core.Path.{_≡_, refl, sym, ap, _∙_}
 use mathlib.Core.Bool.{Bool, true, false, true≢false, false≢true, _&&_}
 use mathlib.Core.Logic.{_⊎_, inl, inr}
@@ -19,17 +19,17 @@ use Rattle.search.specs.Found.{foundIn, Arrays, CanVisit, SmallTable}
 use Rattle.search.proofs.Found.{noted-before, noted-last}
 use Rattle.search.proofs.SearchTurns.{Tried, tried-begun, tried-low, tried-grown, tried-asks, tried-turn, tried-done}
 use Rattle.search.proofs.TableRows.{book-rows, book-count, row-entry}
-use Rattle.way.specs.FirstState.{rowsOf, isSought, NoneBelow, OnlyLast, VisitedFor}
-use Rattle.way.specs.declared.decision.Decision.{Decision}
+use Rattle.way.specs.FirstState.{rowsOf, isGoal, NoneBelow, OnlyLast, VisitedFor}
+use Rattle.way.specs.declared.goal.Goal.{Goal}
 
--- of the state at place i of n the codes below c have been tried, k states are found, and none of them has the decision
-pub record VisitTurn (b : List ℕ) (d : Decision) (order₀ trail₀ : List ℕ) (n i c k : ℕ) (order trail numbers : List ℕ) : Type 0 where
+-- of the state at place i of n the codes below c have been tried, k states are found, and none of them is a goal
+pub record VisitTurn (b : List ℕ) (g : Goal) (order₀ trail₀ : List ℕ) (n i c k : ℕ) (order trail numbers : List ℕ) : Type 0 where
   pub tried : Tried (rowsOf b) (width b) order₀ trail₀ n i c k order trail numbers
-  pub none : NoneBelow b d order k
+  pub none : NoneBelow b g order k
 
-pub visit-begun : (b : List ℕ) (d : Decision) (n i : ℕ) {order trail numbers : List ℕ} → NoneBelow b d order n → Arrays (foundIn n order trail) n order trail numbers
-    → VisitTurn b d order trail n i 0 n order trail numbers
-visit-begun b d n i none S = record { tried = tried-begun (rowsOf b) (width b) n i S; none = none }
+pub visit-begun : (b : List ℕ) (g : Goal) (n i : ℕ) {order trail numbers : List ℕ} → NoneBelow b g order n → Arrays (foundIn n order trail) n order trail numbers
+    → VisitTurn b g order trail n i 0 n order trail numbers
+visit-begun b g n i none S = record { tried = tried-begun (rowsOf b) (width b) n i S; none = none }
 
 module _ {b : List ℕ} (ok : BookPassed b) {order₀ trail₀ : List ℕ} {n i : ℕ} (can : CanVisit (rowsOf b) (width b) order₀ trail₀ n i) where
   small : SmallTable (rowsOf b) (width b)
@@ -42,13 +42,13 @@ module _ {b : List ℕ} (ok : BookPassed b) {order₀ trail₀ : List ℕ} {n i 
   pub visit-state : (s : ℕ) → s ≡ byte order₀ i → (1 ≤ s) × (s ≤ states b)
   visit-state s es = (omega (arith, can .some), omega (arith, can .most, book-count b ok))
 
-  module _ {d : Decision} {c k : ℕ} {order trail numbers : List ℕ} (T : VisitTurn b d order₀ trail₀ n i c k order trail numbers) where
+  module _ {g : Goal} {c k : ℕ} {order trail numbers : List ℕ} (T : VisitTurn b g order₀ trail₀ n i c k order trail numbers) where
     -- no state is lost
     grown : n ≤ k
     grown = tried-grown small can (T .tried)
 
     -- all codes have been tried
-    pub visit-done : width b ≤ c → VisitedFor b d order₀ trail₀ n i k false order trail numbers
+    pub visit-done : width b ≤ c → VisitedFor b g order₀ trail₀ n i k false order trail numbers
     visit-done l = record {
       tried = width b;
       within = omega arith;
@@ -71,8 +71,8 @@ module _ {b : List ℕ} (ok : BookPassed b) {order₀ trail₀ : List ℕ} {n i 
         next : Tried (rowsOf b) (width b) order₀ trail₀ n i (c + 1) more order′ trail′ numbers′
         next = tried-turn small can (T .tried) l s es x in-row S
 
-        before : NoneBelow b d order′ k
-        before j b = ap (isSought _ d) (noted-before k order trail x _ S j b) ∙ T .none j b
+        before : NoneBelow b g order′ k
+        before j b = ap (isGoal _ g) (noted-before k order trail x _ S j b) ∙ T .none j b
 
         -- what `is_hit` asks for
         pub visit-new : k < more → (1 ≤ x) × (x ≤ states b)
@@ -80,10 +80,10 @@ module _ {b : List ℕ} (ok : BookPassed b) {order₀ trail₀ : List ℕ} {n i 
             let at = visit-state s es in
             (noted-last k order trail x _ S new .2, omega (arith, ok .entryMost s c (at .0) (at .1) l))
 
-        pub visit-hit : (hit : Bool) → hit ≡ (ltb k more && isSought b d x) → hit ≡ true → VisitedFor b d order₀ trail₀ n i more true order′ trail′ numbers′
+        pub visit-hit : (hit : Bool) → hit ≡ (ltb k more && isGoal b g x) → hit ≡ true → VisitedFor b g order₀ trail₀ n i more true order′ trail′ numbers′
         visit-hit hit is taken = go (decLt k more)
           where
-            go : Dec (k < more) → VisitedFor b d order₀ trail₀ n i more true order′ trail′ numbers′
+            go : Dec (k < more) → VisitedFor b g order₀ trail₀ n i more true order′ trail′ numbers′
             go (no old) = absurd (true≢false (sym taken ∙ is ∙ rw (le-ltb k more (omega arith))))
             go (yes new) =
                 let last = noted-last k order trail x _ S new in
@@ -97,19 +97,19 @@ module _ {b : List ℕ} (ok : BookPassed b) {order₀ trail₀ : List ℕ} {n i 
                     record {
                       last = k;
                       is = last .0;
-                      has = ap (isSought b d) (last .1) ∙ sym (rw (lt-ltb k more new) at is) ∙ taken;
+                      has = ap (isGoal b g) (last .1) ∙ sym (rw (lt-ltb k more new) at is) ∙ taken;
                       before = before;
                     },
                   );
                 }
 
-        pub visit-turn : (hit : Bool) → hit ≡ (ltb k more && isSought b d x) → hit ≡ false → VisitTurn b d order₀ trail₀ n i (c + 1) more order′ trail′ numbers′
+        pub visit-turn : (hit : Bool) → hit ≡ (ltb k more && isGoal b g x) → hit ≡ false → VisitTurn b g order₀ trail₀ n i (c + 1) more order′ trail′ numbers′
         visit-turn hit is left = record { tried = next; none = none (decLt k more) }
           where
-            none : Dec (k < more) → NoneBelow b d order′ more
+            none : Dec (k < more) → NoneBelow b g order′ more
             none (no old) j lj = before j (omega arith)
             none (yes new) j lj = here (below-suc j k (omega (arith, noted-last k order trail x _ S new .0)))
               where
-                here : (j < k) ⊎ (j ≡ k) → isSought b d (byte order′ j) ≡ false
+                here : (j < k) ⊎ (j ≡ k) → isGoal b g (byte order′ j) ≡ false
                 here (inl low) = before j low
-                here (inr e) = rw e (ap (isSought b d) (noted-last k order trail x _ S new .1) ∙ sym (rw (lt-ltb k more new) at is) ∙ left)
+                here (inr e) = rw e (ap (isGoal b g) (noted-last k order trail x _ S new .1) ∙ sym (rw (lt-ltb k more new) at is) ∙ left)

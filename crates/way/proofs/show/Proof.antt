@@ -1,22 +1,22 @@
--- `show` meets its contract: the start has the decision, or the search finds where it is.
+-- `show` meets its contract: the start is a goal, or the search finds where it is.
 use mathlib.Core.Path.{_≡_, sym, _∙_}
 use mathlib.Core.Bool.{false}
 use native.Mathlib.Omega.{arith}
 use denote.Ref.{now}
 use borrow.Author.Needs.{needs}
-use Rattle.way.specs.FirstState.{isSought}
+use Rattle.way.specs.FirstState.{isGoal}
 use Rattle.way.proofs.ShownWays.{shows-start}
 use Rattle.way.proofs.show.Statement.{statement}
 use Rattle.way.proofs.show.Tie as tie
 
-start-has-not : (c : tie.Else1) → isSought (now (c .before .before .before .before .args .book)) (c .before .before .before .before .args .decision) 1 ≡ false
-start-has-not c = sym (c .before .has-outcome .ensures) ∙ c .if1 .left
+start-has-not : (c : tie.Else1) → isGoal (now (c .before .before .before .before .args .book)) (c .before .before .before .before .args .goal) 1 ≡ false
+start-has-not c = sym (c .before .is-goal .ensures) ∙ c .if1 .left
 
-has-outcome-requires : tie.Need-has-outcome-requires
-has-outcome-requires c κs = search needs
+is-goal-requires : tie.Need-is-goal-requires
+is-goal-requires c κs = search needs
 
 returns : tie.Need-returns
-returns c = shows-start _ _ _ (c .before .has-outcome .ensures) (c .if1 .taken) (now (c .before .before .before .before .args .history))
+returns c = shows-start _ (c .before .before .before .before .args .goal) _ (c .before .is-goal .ensures) (c .if1 .taken) (now (c .before .before .before .before .args .history))
 
 states-requires : tie.Need-states-requires
 states-requires c κs = search needs
@@ -45,7 +45,7 @@ pub show-spec : {M : Type 1} → statement M
 show-spec =
     tie.close
     (tie.spec
-    has-outcome-requires
+    is-goal-requires
     returns
     states-requires
     show-few-requires

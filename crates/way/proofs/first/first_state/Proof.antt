@@ -1,4 +1,4 @@
--- `first_state` meets its contract: i states have been visited, and none of those found has the decision.
+-- `first_state` meets its contract: i states have been visited, and none of those found is a goal.
 use mathlib.Core.Path.{_≡_, refl}
 use Prim.Native.Nat.{_-_, _≤_, _<_}
 use native.Mathlib.Omega.{arith}
@@ -11,12 +11,12 @@ use Rattle.way.proofs.first.first_state.Statement.{statement}
 use Rattle.way.proofs.first.first_state.Tie as tie
 
 abbrev Inv-loop : tie.InvT-loop
-Inv-loop book width decision order₀ trail₀ numbers₀ all n₀ i₀ level₀ order trail numbers n i level =
-    SearchedFor book decision n i (level .length) (level .end) order trail numbers
+Inv-loop book goal order₀ trail₀ numbers₀ all n₀ i₀ level₀ order trail numbers n i level =
+    SearchedFor book goal n i (level .length) (level .end) order trail numbers
     × (length order ≡ length order₀) × (length trail ≡ length trail₀) × (length numbers ≡ length numbers₀) × (states book < length numbers)
 
 abbrev μ-loop : tie.MeasureT-loop
-μ-loop book width decision order₀ trail₀ numbers₀ all n₀ i₀ level₀ order trail numbers n i level = 128 - i
+μ-loop book goal order₀ trail₀ numbers₀ all n₀ i₀ level₀ order trail numbers n i level = 128 - i
 
 few : (c : tie.Else2 Inv-loop μ-loop) → c .before .before .before .before .before .before .before .before .before .before .before .before .before .loop .n ≤ 127
 few c = found-few _ _ (c .before .before .before .before .before .before .before .before .before .before .before .before .before .before .before .before .before .before .before .before .before .before .before .before .before .before .pre .0 .0 .passed) (c .before .before .before .before .before .before .before .before .before .before .before .before .before .loop .inv .0)
@@ -51,8 +51,8 @@ visit-for-requires c κs =
     let l = c .before .before .before .before .before .loop in
     ((p, l .inv .0 .none), (can-visit _ _ (p .passed) (l .inv .0) (c .before .before .before .before .loop-test .taken), (l .inv .0 .turn .are, l .inv .4)))
 
-add-t24 : tie.Need-add-t24 Inv-loop μ-loop
-add-t24 c =
+add-t23 : tie.Need-add-t23 Inv-loop μ-loop
+add-t23 c =
     let l = c .before .before .before .before .before .before .before .before .before .before .before .before .before .before .loop in
     omega (arith, l .inv .0 .level .few, c .before .before .before .before .before .before .before .before .before .before .before .before .before .loop-test .taken, found-few _ _ (c .before .before .before .before .before .before .before .before .before .before .before .before .before .before .before .before .before .before .before .before .before .before .before .before .before .before .before .pre .0 .0 .passed) (l .inv .0))
 
@@ -113,7 +113,7 @@ first-state-spec =
     same-length-3
     returns
     visit-for-requires
-    add-t24
+    add-t23
     same-length-4
     same-length-5
     same-length-6

@@ -6,13 +6,13 @@ use Rattle.way.proofs.first.is_hit.Tie as tie
 returns : tie.Need-returns
 returns c = rw (le-ltb _ _ (c .if1 .taken))
 
-has-outcome-requires : tie.Need-has-outcome-requires
-has-outcome-requires c κs =
+is-goal-requires : tie.Need-is-goal-requires
+is-goal-requires c κs =
     let p = c .before .before .pre in
     ((p .0 .passed .layout, p .0 .wide, p .0 .below), p .1 (c .if1 .left))
 
 returns-2 : tie.Need-returns-2
-returns-2 c = rw (lt-ltb _ _ (c .before .if1 .left)) (c .has-outcome .ensures)
+returns-2 c = rw (lt-ltb _ _ (c .before .if1 .left)) (c .is-goal .ensures)
 
 pub is-hit-spec : {M : Type 1} → statement M
-is-hit-spec = tie.close (tie.spec returns has-outcome-requires returns-2)
+is-hit-spec = tie.close (tie.spec returns is-goal-requires returns-2)

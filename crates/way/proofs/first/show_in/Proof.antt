@@ -1,4 +1,4 @@
--- `show_in` meets its contract: the history of the first state with the decision.
+-- `show_in` meets its contract: the history of the first state that is a goal.
 use native.Mathlib.Omega.{arith}
 use denote.Ref.{now}
 use borrow.Author.Needs.{needs}

@@ -1,4 +1,4 @@
--- `visit_for` meets its contract: the codes below c have been tried from the state at place i, and no state that is found has the decision.
+-- `visit_for` meets its contract: the codes below c have been tried from the state at place i, and no state that is found is a goal.
 use mathlib.Core.Path.{_≡_, refl}
 use Prim.Native.Nat.{_-_, _≤_}
 use native.Mathlib.Omega.{arith}
@@ -9,12 +9,12 @@ use Rattle.way.proofs.first.visit_for.Statement.{statement}
 use Rattle.way.proofs.first.visit_for.Tie as tie
 
 abbrev Inv-loop : tie.InvT-loop
-Inv-loop book width decision order₀ trail₀ numbers₀ n i state k₀ c₀ order trail numbers k c =
-    VisitTurn book decision order₀ trail₀ n i c k order trail numbers
+Inv-loop book goal order₀ trail₀ numbers₀ n i width state k₀ c₀ order trail numbers k c =
+    VisitTurn book goal order₀ trail₀ n i c k order trail numbers
     × (length order ≡ length order₀) × (length trail ≡ length trail₀) × (length numbers ≡ length numbers₀)
 
 abbrev μ-loop : tie.MeasureT-loop
-μ-loop book width decision order₀ trail₀ numbers₀ n i state k₀ c₀ order trail numbers k c = width - c
+μ-loop book goal order₀ trail₀ numbers₀ n i width state k₀ c₀ order trail numbers k c = width - c
 
 slice-read-wide : tie.Need-slice-read-wide Inv-loop μ-loop
 slice-read-wide c = let p = c .before .before .before .before .before .pre in omega (arith, p .1 .0 .before, p .1 .1 .0 .roomOrder, visit-low (p .0 .0 .passed) (p .1 .0), p .1 .1 .1)
@@ -58,7 +58,7 @@ returns c =
     visit-hit (p .0 .0 .passed) (p .1 .0) (l .inv .0) (omega (arith, c .before .before .before .before .before .before .before .before .before .before .before .before .before .loop-test .taken, p .0 .0 .wide)) _ (c .before .before .before .before .before .before .before .before .before .before .before .before .before .before .before .wide .ensures .0) _ (c .before .before .before .before .before .before .before .before .before .before .before .before .entry .ensures) (c .before .before .before .before .before .before .before .before .note .ensures) _ (c .before .is-hit .ensures) (c .if1 .taken)
 
 add-c : tie.Need-add-c Inv-loop μ-loop
-add-c c = search needs
+add-c c = let g = c .before .before .before .before .before .before .before .before .before .before .before .before .before .before .before .before .before .before .before .before .before .pre .0 .0 in omega (arith, c .before .before .before .before .before .before .before .before .before .before .before .before .before .loop-test .taken, g .wide, g .passed .layout .header .widthMost)
 
 loop-less : tie.Need-loop-less Inv-loop μ-loop
 loop-less c = omega (arith, c .before .before .before .before .before .before .before .before .before .before .before .before .before .loop-test .taken)

@@ -1,7 +1,7 @@
--- `has_outcome` meets its contract.
+-- `is_goal` meets its contract.
 use borrow.Author.Needs.{needs}
-use Rattle.way.proofs.decision.has_outcome.Statement.{statement}
-use Rattle.way.proofs.decision.has_outcome.Tie as tie
+use Rattle.way.proofs.goal.is_goal.Statement.{statement}
+use Rattle.way.proofs.goal.is_goal.Tie as tie
 
 telling-at-requires : tie.Need-telling-at-requires
 telling-at-requires c κs = search needs
@@ -12,5 +12,5 @@ outcome-of-requires c κs = search needs
 returns : tie.Need-returns
 returns c = rw (c .before .outcome-of .ensures, c .before .before .telling-at .ensures)
 
-pub has-outcome-spec : {M : Type 1} → statement M
-has-outcome-spec = tie.close (tie.spec telling-at-requires outcome-of-requires returns)
+pub is-goal-spec : {M : Type 1} → statement M
+is-goal-spec = tie.close (tie.spec telling-at-requires outcome-of-requires returns)

@@ -1,4 +1,4 @@
-// A decision that is sought, a request with an outcome, and whether a state has it. The book is not checked here.
+// The goal of a search in a book: a request with an outcome. The book is not checked here.
 ghost use mathlib.Core.Path.{_≡_};
 ghost use Prim.Native.Nat.{_≤_, _<_};
 ghost use Rattle.definitions.specs.Book as Book;
@@ -9,9 +9,11 @@ ghost use Rattle.book.specs.Tellings.{tellingOf};
 use book::Telling;
 use book::telling_at;
 
-pub struct Decision {
+// What is sought, and the width of the book in which it is, which is taken once.
+pub struct Goal {
     pub request: usize,
     pub outcome: usize,
+    pub width: usize,
 }
 
 fn outcome_of(telling: Telling) -> usize
@@ -25,11 +27,11 @@ fn outcome_of(telling: Telling) -> usize
     }
 }
 
-// Whether the request has the outcome at a state. The caller hands in the width, which it takes once.
-pub fn has_outcome(book: &[u8], width: usize, state: usize, decision: Decision) -> bool
-    requires { ⌜ BookLayout (now book) × (width ≡ Book.width (now book)) × (decision .request < Book.requests (now book)) ⌝ }
+// Whether the request has the outcome at a state.
+pub fn is_goal(book: &[u8], goal: Goal, state: usize) -> bool
+    requires { ⌜ BookLayout (now book) × (goal .width ≡ Book.width (now book)) × (goal .request < Book.requests (now book)) ⌝ }
     requires { ⌜ (1 ≤ state) × (state ≤ Book.states (now book)) ⌝ }
-    ensures { λ r. ⌜ r ≡ hasOutcome (now (book .entry)) (decision .request) (decision .outcome) state ⌝ }
+    ensures { λ r. ⌜ r ≡ hasOutcome (now (book .entry)) (goal .request) (goal .outcome) state ⌝ }
 {
-    outcome_of(telling_at(book, width, state, decision.request)) == decision.outcome
+    outcome_of(telling_at(book, goal.width, state, goal.request)) == goal.outcome
 }
