@@ -11,7 +11,7 @@ use native.Mathlib.Omega.{arith}
 use native.Mathlib.Decide.{decLt}
 use borrow.Author.Tests.{lt-ltb}
 use Rattle.automaton.specs.History.{History}
-use Rattle.automaton.specs.Machine.{step, after, isState, possible}
+use Rattle.automaton.specs.Machine.{step, after, isState}
 use Rattle.automaton.specs.Explore.{Reached, reached, firstThat}
 use Rattle.automaton.proofs.Below.{any-below, any-below-at}
 use Rattle.automaton.proofs.Machine.{step-past, after-append, possible-codes}

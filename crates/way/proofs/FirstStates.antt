@@ -1,17 +1,16 @@
 -- The search for the first state that is a goal, state by state: where a visit ends with one, it is the first of all that are reached, and where all are visited
 -- there is none.
-use mathlib.Core.Path.{_≡_, refl, sym, ap, _∙_, subst}
+use mathlib.Core.Path.{_≡_, sym, ap, _∙_, subst}
 use mathlib.Core.Bool.{Bool, true, false}
 use mathlib.Core.List.{List}
 use mathlib.Core.Option.{none, some}
-use Prim.Native.Nat.{ℕ, suc, _+_, _*_, _/_, _≤_, _<_}
+use Prim.Native.Nat.{ℕ, suc, _+_, _≤_, _<_}
 use native.Mathlib.Omega.{arith}
 use lib.ListN.{length, set}
 use lib.Seq.{getD-set-same}
-use Rattle.automaton.specs.Explore.{Reached, firstThat}
+use Rattle.automaton.specs.Explore.{firstThat}
 use Rattle.automaton.specs.Parents.{EarlierParents}
 use Rattle.automaton.proofs.Explore.{Front, front-length, visit-front}
-use Rattle.definitions.specs.Bytes.{byte}
 use Rattle.definitions.specs.Book.{width, states}
 use Rattle.definitions.specs.Checked.{BookPassed}
 use Rattle.definitions.specs.Verdict.{statesReached}

@@ -1,13 +1,12 @@
 -- How many codes lead to the states that a search has found and not visited yet: a visit finds states one code further on, and the level changes where all states of
 -- one number of codes have been visited.
-use mathlib.Core.Path.{_≡_, refl, sym, ap, _∙_}
+use mathlib.Core.Path.{_≡_, sym, ap, _∙_}
 use mathlib.Core.List.{List}
 use Prim.Native.Nat.{ℕ, suc, _+_, _≤_, _<_}
 use native.Mathlib.Decide.{decLt}
 use native.Mathlib.Omega.{arith}
 use lib.ListN.{length}
 use borrow.Author.Tests.{lt-ltb, le-ltb}
-use Rattle.automaton.specs.History.{History}
 use Rattle.automaton.specs.Machine.{Machine}
 use Rattle.automaton.specs.Explore.{Reached, visit}
 use Rattle.automaton.proofs.Explore.{front-at, front-length, visit-front}

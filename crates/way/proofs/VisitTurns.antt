@@ -3,7 +3,7 @@ use mathlib.Core.Path.{_≡_, refl, sym, ap, _∙_}
 use mathlib.Core.Bool.{Bool, true, false, true≢false, false≢true, _&&_}
 use mathlib.Core.Logic.{_⊎_, inl, inr}
 use mathlib.Core.List.{List, [], _∷_, _++_}
-use Prim.Native.Nat.{ℕ, suc, _+_, _-_, _*_, _≤_, _<_}
+use Prim.Native.Nat.{ℕ, _+_, _-_, _*_, _≤_, _<_}
 use native.Mathlib.Decide.{decLt}
 use native.Mathlib.Omega.{arith}
 use lib.Dec.{ltb}
@@ -19,7 +19,7 @@ use Rattle.search.specs.Found.{foundIn, Arrays, CanVisit, SmallTable}
 use Rattle.search.proofs.Found.{noted-before, noted-last}
 use Rattle.search.proofs.SearchTurns.{Tried, tried-begun, tried-low, tried-grown, tried-asks, tried-turn, tried-done}
 use Rattle.search.proofs.TableRows.{book-rows, book-count, row-entry}
-use Rattle.way.specs.FirstState.{rowsOf, isGoal, NoneBelow, OnlyLast, VisitedFor}
+use Rattle.way.specs.FirstState.{rowsOf, isGoal, NoneBelow, VisitedFor}
 use Rattle.way.specs.declared.goal.Goal.{Goal}
 
 -- of the state at place i of n the codes below c have been tried, k states are found, and none of them is a goal

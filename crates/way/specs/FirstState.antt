@@ -6,7 +6,7 @@ use mathlib.Core.Option.{none, some}
 use Prim.Native.Nat.{ℕ, suc, _≤_, _<_}
 use lib.Dec.{ltb}
 use lib.ListN.{length, drop}
-use Rattle.automaton.specs.Explore.{Reached, visit, firstThat}
+use Rattle.automaton.specs.Explore.{visit, firstThat}
 use Rattle.automaton.specs.Parents.{EarlierParents}
 use Rattle.definitions.specs.Answer.{given, written, historyBytes}
 use Rattle.definitions.specs.Bytes.{byte}

@@ -1,6 +1,6 @@
 -- `visit_for` meets its contract: the codes below c have been tried from the state at place i, and no state that is found is a goal.
 use mathlib.Core.Path.{_≡_, refl}
-use Prim.Native.Nat.{_-_, _≤_}
+use Prim.Native.Nat.{_-_}
 use native.Mathlib.Omega.{arith}
 use lib.ListN.{length}
 use borrow.Author.Needs.{needs}
