@@ -58,6 +58,14 @@ fn the_cases() {
     }
 }
 
+/// Events and two fields, ten states: every outcome of both requests.
+#[test]
+fn several_fields_and_events() {
+    let mixed = book_bytes(include_bytes!("../../samples/mixed.policy"));
+    let expected = [["03", "", "01 05 06", "-"], ["-", "", "-", "01 05"]];
+    assert_eq!(ways(&mixed), expected);
+}
+
 /// Where a counter starts changes the ways, and with it what there is no way to.
 #[test]
 fn the_start_of_version_2() {

@@ -1,6 +1,6 @@
 // Breadth-first search over the rows of a table. The states found stand one after another in `order`, and the histories that found them in `trail`.
 // `numbers` has the number of each state found, counted from 1, and 1 for 0, which is no state, so that one test decides whether a code leads to a new one.
-// A search that ends early is a loop over `visit` like that of `explore`, with a test of its own.
+// A search that ends early is made of `begin` and `note`, with a test of its own.
 ghost use mathlib.Core.Path.{_≡_};
 ghost use mathlib.Core.List.{[], _∷_, _++_};
 ghost use Prim.Native.Nat.{_/_, _≤_, _<_};
