@@ -17,7 +17,7 @@ use Rattle.definitions.specs.Verdict.{statesReached, historyOf}
 abbrev pub hasOutcome : List ℕ → ℕ → ℕ → ℕ → Bool
 hasOutcome b r outcome s = eqb (outcomeOf (telling b s r)) outcome
 
--- the history of the first state, in the order of earliest histories, at which it has
+-- the history of the first state, in the order of earliest histories, at which it has that outcome; none where there is no such state
 unfoldable pub way : List ℕ → ℕ → ℕ → Option History
 unfolding telling
 way b r outcome = historyOf (firstThat (hasOutcome b r outcome) (statesReached b))

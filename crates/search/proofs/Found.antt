@@ -13,7 +13,7 @@ use Rattle.automaton.specs.History.{History}
 use Rattle.automaton.specs.Machine.{Machine, isState, after}
 use Rattle.automaton.specs.Explore.{Reached, isAt, numberIn, add, unreached, reached}
 use Rattle.automaton.proofs.Below.{length-list-below, getD-list-below, place-other}
-use Rattle.automaton.proofs.Explore.{front-at, front-length, add-keeps, add-front, number-end, stateAt, reachedHistory, sound-apart, reached-sound, reached-leads, reached-few}
+use Rattle.automaton.proofs.Explore.{Front, front-at, front-length, add-keeps, add-front, number-end, stateAt, reachedHistory, sound-apart, reached-sound, reached-leads, reached-few}
 use Rattle.automaton.proofs.Congruence.{list-below-same}
 use Rattle.automaton.proofs.Machine.{is-state, state-is}
 use Rattle.automaton.proofs.Separation.{HasStates, after-within}
@@ -40,6 +40,15 @@ module _ {found : List Reached} {n : ℕ} {order trail : List ℕ} (H : Holds fo
 
   pub holds-at : (k : ℕ) → k < n → getD found k unreached ≡ reachedAt order trail k
   holds-at k l = ap (λ (t : List Reached). getD t k unreached) (sym (H .are)) ∙ found-at order trail n k l
+
+-- ---- a list that grows at its end, in other arrays: no place is lost, and each holds what it held
+module _ (n : ℕ) (order trail : List ℕ) {more : List Reached} {k : ℕ} {order′ trail′ : List ℕ} (front : Front (foundIn n order trail) more) (H : Holds more k order′ trail′) where
+  pub kept-grown : n ≤ k
+  kept-grown = omega (arith, holds-length H, front-length front, found-length order trail n)
+
+  pub kept-at : (j : ℕ) → j < n → reachedAt order′ trail′ j ≡ reachedAt order trail j
+  kept-at j l =
+      sym (holds-at H j (omega (arith, kept-grown))) ∙ front-at front j (omega (arith, found-length order trail n)) ∙ found-at order trail n j l
 
 -- ---- what is reached in a machine that has states 1 to k
 module _ (m : Machine) (k : ℕ) (has : HasStates m k) where
@@ -185,11 +194,7 @@ module _ (n : ℕ) (order trail : List ℕ) (x : ℕ) (h : History) where
 
   module _ {r : ℕ} {order′ trail′ numbers′ : List ℕ} (S : Arrays (add (foundIn n order trail) x h) r order′ trail′ numbers′) where
     pub noted-before : (k : ℕ) → k < n → byte order′ k ≡ byte order k
-    noted-before k l =
-        let front = add-front (foundIn n order trail) x h in
-        let inside : k < length (foundIn n order trail) = omega (arith, found-length order trail n) in
-        ap (λ (t : Reached). t .state)
-        (sym (holds-at (S .holds) k (omega (arith, holds-length (S .holds), front-length front))) ∙ front-at front k inside ∙ found-at order trail n k l)
+    noted-before k l = ap (λ (t : Reached). t .state) (kept-at n order trail (add-front (foundIn n order trail) x h) (S .holds) k l)
 
     pub noted-last : n < r → (r ≡ suc n) × (byte order′ n ≡ x) × (1 ≤ x)
     noted-last l =

@@ -17,7 +17,7 @@ use Rattle.definitions.proofs.TableBytes.{state-row, state-entry}
 use Rattle.search.specs.Trail.{firstAt, secondAt, historyAt}
 use Rattle.search.specs.Found.{SmallTable, rowsMachine, statesOf, reachedAt, foundIn, numberOf, Arrays, EmptyArrays, visitedAt, CanVisit}
 use Rattle.search.proofs.TableRows.{rows-step, states-few, states-inside}
-use Rattle.search.proofs.Found.{found-length, found-at, holds-length, holds-at}
+use Rattle.search.proofs.Found.{found-length, found-at, kept-grown, kept-at}
 
 -- the list is what the arrays hold
 as-found : {found : List Reached} {n : ℕ} {order trail numbers : List ℕ} → Arrays found n order trail numbers → Arrays (foundIn n order trail) n order trail numbers
@@ -55,16 +55,13 @@ module _ {rows : List ℕ} {w : ℕ} {order₀ trail₀ : List ℕ} {n i : ℕ} 
     tried-done l = let e : c ≡ w = omega (arith, T .within) in rw e at (T .are)
 
     pub tried-grown : n ≤ k
-    tried-grown = omega (arith, holds-length (T .are .holds), found-length order₀ trail₀ n, front-length (visit-front m t c before))
+    tried-grown = kept-grown n order₀ trail₀ (visit-front m t c before) (T .are .holds)
 
     place : i < k
     place = omega (arith, can .before, tried-grown)
 
     history-same : historyAt trail i ≡ historyAt trail₀ i
-    history-same =
-        ap (λ (u : Reached). u .history)
-        (sym (holds-at (T .are .holds) i place) ∙ front-at (visit-front m t c before) i (omega (arith, can .before, found-length order₀ trail₀ n))
-        ∙ found-at order₀ trail₀ n i (can .before))
+    history-same = ap (λ (u : Reached). u .history) (kept-at n order₀ trail₀ (visit-front m t c before) (T .are .holds) i (can .before))
 
     -- the next code leads to x, which stands in the row
     module _ (l : c < w) (s : ℕ) (es : s ≡ byte order₀ i) (x : ℕ) (ex : x ≡ byte rows ((s - 1) * w + c)) where
@@ -198,6 +195,6 @@ module _ (rows : List ℕ) (w : ℕ) (small : SmallTable rows w) {n i : ℕ} {or
         → SearchTurn rows w r (i + 1) order′ trail′ numbers′
     searched-turn T = record {
       are = as-found T;
-      within = omega (arith, front-length (visit-front (rowsMachine rows w) (reachedAt order trail i) w found), found-length order trail n, holds-length (T .holds));
+      within = omega (arith, kept-grown n order trail (visit-front (rowsMachine rows w) (reachedAt order trail i) w found) (T .holds));
       come = rw (add-one, T .holds .are) come-on;
     }

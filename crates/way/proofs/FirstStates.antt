@@ -10,18 +10,18 @@ use lib.ListN.{length, set}
 use lib.Seq.{getD-set-same}
 use Rattle.automaton.specs.Explore.{firstThat}
 use Rattle.automaton.specs.Parents.{EarlierParents}
-use Rattle.automaton.proofs.Explore.{Front, front-length, visit-front}
+use Rattle.automaton.proofs.Explore.{Front, front-length}
 use Rattle.definitions.specs.Book.{width, states}
 use Rattle.definitions.specs.Checked.{BookPassed}
 use Rattle.definitions.specs.Verdict.{statesReached}
 use Rattle.search.specs.Trail.{firstAt, historyAt}
 use Rattle.search.specs.Found.{SmallTable, rowsMachine, statesOf, bookStates, reachedAt, foundIn, Arrays, EmptyArrays, CanVisit}
-use Rattle.search.proofs.Found.{found-length, holds-length}
+use Rattle.search.proofs.Found.{holds-length}
 use Rattle.search.proofs.FirstFound.{none-below, first-below, first-of-front}
 use Rattle.search.proofs.SearchTurns.{SearchTurn, searched-begun, searched-few, searched-next, searched-front, searched-turn, searched-done, searched-all}
 use Rattle.search.proofs.TableRows.{book-rows, book-count, book-states, states-few}
 use Rattle.way.specs.FirstState.{rowsOf, isGoal, NoneBelow, OnlyLast, VisitedFor, AtLevel, nextLength, nextEnd, FirstState}
-use Rattle.way.proofs.Levels.{level-begun, level-visited, level-next}
+use Rattle.way.proofs.Levels.{level-begun, visited-grown, level-visited, level-next}
 use Rattle.way.specs.declared.goal.Goal.{Goal}
 
 -- i states have been visited, n are found, and none of them is a goal; the level is known
@@ -79,7 +79,7 @@ module _ (b : List ℕ) (g : Goal) (ok : BookPassed b) where
         further miss = record {
           turn = searched-turn (rowsOf b) (width b) small (S .turn) l (rw (visited .missed miss .0) at (visited .are));
           none = visited .missed miss .1;
-          level = level-next level (omega (arith, holds-length (visited .are .holds), front-length (visit-front (rowsMachine (rowsOf b) (width b)) (reachedAt order trail i) (visited .tried) (foundIn n order trail)), found-length order trail n));
+          level = level-next level (omega (arith, visited-grown (rowsMachine (rowsOf b) (width b)) (visited .tried) n i order trail (visited .are .holds)));
         }
 
         -- what is found stands at the front of all that is reached

@@ -9,12 +9,12 @@ use lib.ListN.{length}
 use borrow.Author.Tests.{lt-ltb, le-ltb}
 use Rattle.automaton.specs.Machine.{Machine}
 use Rattle.automaton.specs.Explore.{Reached, visit}
-use Rattle.automaton.proofs.Explore.{front-at, front-length, visit-front}
+use Rattle.automaton.proofs.Explore.{visit-front}
 use Rattle.automaton.proofs.Parents.{trail-start}
 use Rattle.automaton.proofs.RemainingSearch.{visit-longer}
 use Rattle.search.specs.Trail.{firstAt, secondAt, historyAt}
 use Rattle.search.specs.Found.{reachedAt, foundIn, Holds}
-use Rattle.search.proofs.Found.{found-length, found-at, holds-length, holds-at}
+use Rattle.search.proofs.Found.{found-length, holds-length, holds-at, kept-grown, kept-at}
 use Rattle.way.specs.FirstState.{AtLevel, nextLength, nextEnd}
 
 -- the start is found after no code
@@ -36,13 +36,11 @@ module _ (m : Machine) (c n i : ℕ) (order trail : List ℕ) {k : ℕ} {order�
   abbrev before : List Reached
   before = foundIn n order trail
 
-  grown : n ≤ k
-  grown = omega (arith, holds-length H, front-length (visit-front m t c before), found-length order trail n)
+  pub visited-grown : n ≤ k
+  visited-grown = kept-grown n order trail (visit-front m t c before) H
 
   old : (j : ℕ) → j < n → historyAt trail′ j ≡ historyAt trail j
-  old j l =
-      ap (λ (u : Reached). u .history)
-      (sym (holds-at H j (omega (arith, grown))) ∙ front-at (visit-front m t c before) j (omega (arith, found-length order trail n)) ∙ found-at order trail n j l)
+  old j l = ap (λ (u : Reached). u .history) (kept-at n order trail (visit-front m t c before) H j l)
 
   new : (j : ℕ) → n ≤ j → j < k → length (historyAt trail′ j) ≡ suc (length (historyAt trail i))
   new j low l =
@@ -52,7 +50,7 @@ module _ (m : Machine) (c n i : ℕ) (order trail : List ℕ) {k : ℕ} {order�
   pub level-visited : {codes end : ℕ} → AtLevel trail n i codes end → i < n → AtLevel trail′ k i codes end
   level-visited {codes} {end} L l = record {
     inside = λ _. L .inside l;
-    most = omega (arith, L .most, grown);
+    most = omega (arith, L .most, visited-grown);
     few = L .few;
     here = λ j low b. ap length (old j (omega (arith, L .most))) ∙ L .here j low b;
     next = λ j low b. next j low b (decLt j n);

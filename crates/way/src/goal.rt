@@ -1,11 +1,10 @@
 // The goal of a search in a book: a request with an outcome. The book is not checked here.
 ghost use mathlib.Core.Path.{_≡_};
-ghost use Prim.Native.Nat.{_≤_, _<_};
+ghost use Prim.Native.Nat.{_≤_};
 ghost use Rattle.definitions.specs.Book as Book;
-ghost use Rattle.definitions.specs.Checked.{BookLayout};
 ghost use Rattle.definitions.specs.Telling.{outcomeOf};
-ghost use Rattle.definitions.specs.Way.{hasOutcome};
 ghost use Rattle.book.specs.Tellings.{tellingOf};
+ghost use Rattle.way.specs.FirstState.{GoalIn, isGoal};
 use book::Telling;
 use book::telling_at;
 
@@ -29,9 +28,8 @@ fn outcome_of(telling: Telling) -> usize
 
 // Whether the request has the outcome at a state.
 pub fn is_goal(book: &[u8], goal: Goal, state: usize) -> bool
-    requires { ⌜ BookLayout (now book) × (goal .width ≡ Book.width (now book)) × (goal .request < Book.requests (now book)) ⌝ }
-    requires { ⌜ (1 ≤ state) × (state ≤ Book.states (now book)) ⌝ }
-    ensures { λ r. ⌜ r ≡ hasOutcome (now (book .entry)) (goal .request) (goal .outcome) state ⌝ }
+    requires { ⌜ GoalIn (now book) goal × (1 ≤ state) × (state ≤ Book.states (now book)) ⌝ }
+    ensures { λ r. ⌜ r ≡ isGoal (now (book .entry)) goal state ⌝ }
 {
     outcome_of(telling_at(book, goal.width, state, goal.request)) == goal.outcome
 }

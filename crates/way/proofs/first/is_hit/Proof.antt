@@ -9,7 +9,8 @@ returns c = rw (le-ltb _ _ (c .if1 .taken))
 is-goal-requires : tie.Need-is-goal-requires
 is-goal-requires c κs =
     let p = c .before .before .pre in
-    ((p .0 .passed .layout, p .0 .wide, p .0 .below), p .1 (c .if1 .left))
+    let state = p .1 (c .if1 .left) in
+    (p .0, state .0, state .1)
 
 returns-2 : tie.Need-returns-2
 returns-2 c = rw (lt-ltb _ _ (c .before .if1 .left)) (c .is-goal .ensures)
