@@ -166,6 +166,23 @@ void all_codes(struct bytes *book)
     *entry(book, STATES, EVENTS + 1) = 0;
 }
 
+void one_code_away(struct bytes *book)
+{
+    widest_header(book, STATES);
+    for (unsigned s = 1; s <= STATES; s++)
+        for (unsigned c = 0; c < WIDTH; c++)
+            *entry(book, s, c) = (uint8_t)((s + c) % STATES + 1);
+}
+
+void chain(struct bytes *book)
+{
+    book->length = 0;
+    PUT(book, 'B', 'O', 'K', 0, 1, 0, 1, 1, 0, 0, 0, STATES);
+    for (unsigned s = 1; s < STATES; s++)
+        PUT(book, (uint8_t)(s + 1), 0);
+    PUT(book, 0, STATES);
+}
+
 void half_reached(struct bytes *book)
 {
     widest_header(book, STATES);

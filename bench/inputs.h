@@ -48,6 +48,12 @@ void late_findings(struct bytes *book);
 /* A book of 127 states in which all 136 codes are possible in every state, but for request 0 rejected in the last one, to which 126 codes lead. */
 void all_codes(struct bytes *book);
 
+/* A book of 127 states and 136 codes in which all codes are possible in every state, and one code leads from any state to any other. */
+void one_code_away(struct bytes *book);
+
+/* A book of 127 states in a chain with one request: accepted, which leads to the next state, and in the last one rejected. */
+void chain(struct bytes *book);
+
 /* A book of 127 states and 136 codes in which a history leads to every second state only. */
 void half_reached(struct bytes *book);
 

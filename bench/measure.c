@@ -76,6 +76,9 @@ static void book_rows(const char *input, struct job *j)
     row("verdict, all codes possible", input, measure_verdict, j);
     way_row("way, all codes possible, 126 codes", input, POLICYBOOK_OUTCOME_ACCEPT, j);
     way_row("way, all codes possible, no history", input, POLICYBOOK_OUTCOME_NONE, j);
+    one_code_away(&j->first);
+    row("verdict, every state one code away", input, measure_verdict, j);
+    way_row("way, every state one code away, no history", input, POLICYBOOK_OUTCOME_NONE, j);
     late_findings(&j->first);
     renumbered(&j->first, &j->second);
     row("compare, same, other numbers", input, measure_compare, j);
@@ -94,6 +97,15 @@ static void book_rows(const char *input, struct job *j)
     row("equal bytes, last differs", input, measure_equal_bytes, j);
 }
 
+/* The narrowest book with the most states, in which writing the history is the greatest part of a way. */
+static void chain_rows(const char *input, struct job *j)
+{
+    chain(&j->first);
+    row("verdict", input, measure_verdict, j);
+    way_row("way, 126 codes", input, POLICYBOOK_OUTCOME_REJECT, j);
+    way_row("way, no history", input, POLICYBOOK_OUTCOME_NONE, j);
+}
+
 static void print_jobs(struct job *j)
 {
     printf("| job | input | library, µs | plain C, µs | library / plain C | OpenFst, µs | OpenFst / library |\n|---|---|---:|---:|---:|---:|---:|\n");
@@ -106,6 +118,7 @@ static void print_jobs(struct job *j)
     many_states(&j->policy, 63, 8, 16, 4, 5);
     policy_rows("127 states, 136 codes", j);
     book_rows("books 127 × 136", j);
+    chain_rows("chain of 127 states, 2 codes", j);
 }
 
 /* A job measured: the library's time, and its ratio to plain C's. */
