@@ -1,14 +1,14 @@
 // Bytes read eight at a time. The compiler makes one load of a word.
 ghost use mathlib.Core.Path.{_≡_};
-ghost use Prim.Native.Nat.{_+_, _≤_, _<_};
+ghost use Prim.Native.Nat.{_+_, _≤_};
 ghost use lib.ListN.{length};
-ghost use Rattle.automaton.specs.ByteWords.{halfAt, wordAt};
+ghost use Rattle.automaton.specs.ByteWords.{halfAt, wordAt, HalfBytes, WordBytes};
 use crate::wide;
 
 // Four bytes from place k on as one number, the first lowest.
 fn half(bytes: &[u8], k: usize) -> usize
     requires { ⌜ k + 4 ≤ length (now bytes) ⌝ }
-    ensures { λ r. ⌜ (r ≡ halfAt (now (bytes .entry)) k) × (r < 0x100000000) ⌝ }
+    ensures { λ r. ⌜ (r ≡ halfAt (now (bytes .entry)) k) × HalfBytes (now (bytes .entry)) k ⌝ }
 {
     wide(bytes[k])
         + 0x100 * wide(bytes[k + 1])
@@ -19,7 +19,7 @@ fn half(bytes: &[u8], k: usize) -> usize
 // Eight bytes.
 pub fn word(bytes: &[u8], k: usize) -> usize
     requires { ⌜ k + 8 ≤ length (now bytes) ⌝ }
-    ensures { λ r. ⌜ r ≡ wordAt (now (bytes .entry)) k ⌝ }
+    ensures { λ r. ⌜ (r ≡ wordAt (now (bytes .entry)) k) × WordBytes (now (bytes .entry)) k ⌝ }
 {
     half(bytes, k) + 0x100000000 * half(bytes, k + 4)
 }

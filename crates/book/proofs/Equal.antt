@@ -1,14 +1,17 @@
--- Two lists of one length are the same exactly when they agree at every place.
-use mathlib.Core.Bool.{Bool, true, false, false≢true}
+-- Two strings of one length that are read from the front: equal where no place is left, and not where a part differs.
+use mathlib.Core.Bool.{Bool, true, false}
 use mathlib.Core.List.{List}
 use mathlib.Core.Path.{_≡_, refl, sym, ap, _∙_}
-use Prim.Native.Nat.{ℕ}
-use lib.Dec.{eqb}
+use Prim.Native.Nat.{ℕ, zero, _+_, _≤_, _<_}
+use native.Mathlib.Nat.{zero-add}
+use native.Mathlib.Omega.{arith}
 use lib.ListN.{length, getD}
 use lib.Seq.{ext-getD}
-use borrow.Author.Tests.{eqb-true, eq-eqb}
-use Rattle.automaton.specs.Below.{allBelow, sameList}
-use Rattle.automaton.proofs.Below.{all-below, all-below-at, same-list-refl, same-list-true}
+use Rattle.automaton.specs.Below.{sameList}
+use Rattle.automaton.specs.ByteWords.{SamePart}
+use Rattle.automaton.proofs.Below.{same-list-refl, same-list-true}
+use Rattle.automaton.proofs.ByteWords.{parts-joined}
+use Rattle.book.specs.SameBytes.{SameSoFar}
 
 pub lists-differ : (xs ys : List ℕ) → (xs ≡ ys → ⊥) → false ≡ sameList xs ys
 lists-differ xs ys n = go (sameList xs ys) refl
@@ -17,16 +20,19 @@ lists-differ xs ys n = go (sameList xs ys) refl
     go true e = absurd (n (same-list-true xs ys e))
     go false e = refl
 
--- the two have the same number at place k
-abbrev pub sameAt : List ℕ → List ℕ → ℕ → Bool
-sameAt xs ys k = eqb (getD xs k 0) (getD ys k 0)
+module _ (xs ys : List ℕ) where
+  pub nothing-read : length xs ≡ length ys → SameSoFar xs ys 0
+  nothing-read l = record { lengths = l; within = omega arith; front = λ i b. absurd (omega arith) }
 
-pub same-everywhere : (xs ys : List ℕ) → length xs ≡ length ys → allBelow (length xs) (sameAt xs ys) ≡ sameList xs ys
-same-everywhere xs ys l = go (allBelow (length xs) (sameAt xs ys)) refl
-  where
-    go : (b : Bool) → allBelow (length xs) (sameAt xs ys) ≡ b → b ≡ sameList xs ys
-    go true e =
-        let same : xs ≡ ys = ext-getD 0 xs ys l (λ k m. eqb-true (getD xs k 0) (getD ys k 0) (all-below-at (sameAt xs ys) (length xs) e k m)) in
-        sym (ap (sameList xs) (sym same) ∙ same-list-refl xs)
-    go false e =
-        lists-differ xs ys (λ same. false≢true (sym e ∙ all-below (sameAt xs ys) (length xs) (λ k m. eq-eqb _ _ (ap (λ (z : List ℕ). getD z k 0) same))))
+  -- a part more
+  pub more-read : (k n : ℕ) → SameSoFar xs ys k → k + n ≤ length xs → SamePart n xs k ys k → SameSoFar xs ys (k + n)
+  more-read k n S l same =
+      record { lengths = S .lengths; within = l; front = parts-joined xs ys 0 0 k n (S .front) (rw zero-add same) }
+
+  pub part-differs : (n k : ℕ) → (SamePart n xs k ys k → ⊥) → false ≡ sameList xs ys
+  part-differs n k differ = lists-differ xs ys (λ e. differ (λ i b. ap (λ (l : List ℕ). getD l (k + i) 0) e))
+
+  pub all-read : (k : ℕ) → SameSoFar xs ys k → length xs ≤ k → true ≡ sameList xs ys
+  all-read k S end =
+      let same : xs ≡ ys = ext-getD 0 xs ys (S .lengths) (λ i b. rw zero-add at (S .front i (omega (arith, S .within)))) in
+      sym (ap (sameList xs) (sym same) ∙ same-list-refl xs)

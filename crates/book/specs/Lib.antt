@@ -1,1 +1,2 @@
+pub mod SameBytes
 pub mod Tellings

@@ -1,37 +1,75 @@
 // Equal bytes: of any two byte strings, and of the frames of two books.
 ghost use mathlib.Core.Path.{_≡_};
-ghost use mathlib.Core.Bool.{_&&_};
-ghost use Prim.Native.Nat.{_≤_};
-ghost use lib.Dec.{eqb};
+ghost use mathlib.Core.Logic.{_↔_};
+ghost use Prim.Native.Nat.{_+_, _≤_};
 ghost use lib.ListN.{length};
 ghost use Rattle.automaton.specs.Below.{sameList};
+ghost use Rattle.automaton.specs.ByteWords.{SamePart};
 ghost use Rattle.definitions.specs.Book.{frame};
 ghost use Rattle.definitions.specs.Compare.{sameBytes};
+ghost use Rattle.book.specs.SameBytes.{SameSoFar};
+use automaton::word;
 
-// Whether two bytes are equal, and all those before them.
-fn still_same(before: bool, one: u8, other: u8) -> bool
-    ensures { λ r. ⌜ r ≡ (before && eqb one other) ⌝ }
+// What differs in the 64 bytes from place k on, gathered from eight words: 0 where they are equal. There is no way out before the last word, so that the compiler
+// makes vector code of it.
+fn difference(first: &[u8], second: &[u8], k: usize) -> usize
+    requires { ⌜ (k + 64 ≤ length (now first)) × (k + 64 ≤ length (now second)) ⌝ }
+    ensures { λ r. ⌜ (r ≡ 0) ↔ SamePart 64 (now (first .entry)) k (now (second .entry)) k ⌝ }
 {
-    if one != other {
-        return false;
+    let mut gathered = 0;
+    let mut n = 0;
+    while n < 64 {
+        gathered |= word(first, k + n) ^ word(second, k + n);
+        n += 8;
     }
-    before
+    gathered
 }
 
-// Whether two byte strings, books or not, are equal. The loop has no way out but its end, so that the compiler makes vector code of it.
+// Whether two strings are equal that are so up to a place: single bytes.
+fn same_tail(first: &[u8], second: &[u8], from: usize) -> bool
+    requires { ⌜ SameSoFar (now first) (now second) from ⌝ }
+    ensures { λ r. ⌜ r ≡ sameBytes (now (first .entry)) (now (second .entry)) ⌝ }
+{
+    let mut k = from;
+    while k < first.len() {
+        if first[k] != second[k] {
+            return false;
+        }
+        k += 1;
+    }
+    true
+}
+
+// The same: words where eight bytes remain, then single bytes.
+fn same_words(first: &[u8], second: &[u8], from: usize) -> bool
+    requires { ⌜ SameSoFar (now first) (now second) from ⌝ }
+    ensures { λ r. ⌜ r ≡ sameBytes (now (first .entry)) (now (second .entry)) ⌝ }
+{
+    let mut k = from;
+    while k + 8 <= first.len() {
+        if word(first, k) != word(second, k) {
+            return false;
+        }
+        k += 8;
+    }
+    same_tail(first, second, k)
+}
+
+// Whether two byte strings, books or not, are equal. Eight words a turn where as many remain.
 pub fn same_bytes(first: &[u8], second: &[u8]) -> bool
     ensures { λ r. ⌜ r ≡ sameBytes (now (first .entry)) (now (second .entry)) ⌝ }
 {
     if first.len() != second.len() {
         return false;
     }
-    let mut same = true;
-    let mut i = 0;
-    while i < first.len() {
-        same = still_same(same, first[i], second[i]);
-        i += 1;
+    let mut k = 0;
+    while k + 64 <= first.len() {
+        if difference(first, second, k) != 0 {
+            return false;
+        }
+        k += 64;
     }
-    same
+    same_words(first, second, k)
 }
 
 // Whether two books have one frame: E, F and the value counts.

@@ -3,13 +3,14 @@ use mathlib.Core.Path.{_≡_}
 use mathlib.Core.List.{List}
 use Prim.Native.Nat.{ℕ, _+_, _≤_}
 use native.Mathlib.Omega.{arith}
-use Rattle.automaton.specs.ByteWords.{wordAt}
+use Rattle.automaton.specs.ByteWords.{wordAt, WordBytes}
 use Rattle.automaton.proofs.ByteWords.{word-zeros}
 use Rattle.comparelabels.specs.RowLabels.{RowPair, SameLabel}
 use Rattle.comparelabels.specs.FirstFailing.{FirstFailing}
 use Rattle.comparelabels.proofs.FirstFailing.{fails-nowhere}
 
-pub zeros-alike : (one other : List ℕ) (base : ℕ) (label : List ℕ) → RowPair one other base label → (at : ℕ) → wordAt one at ≡ 0 → wordAt other at ≡ 0
-    → (k end : ℕ) → at ≤ k → k ≤ end → end ≤ at + 8 → FirstFailing (SameLabel one other base label) k end end
-zeros-alike one other base label R at ex ey k end low l high = fails-nowhere (SameLabel one other base label) k end l
-    (λ j h b. rw (word-zeros one at ex j (omega arith) (omega arith), word-zeros other at ey j (omega arith) (omega arith)) (R .none))
+module _ (one other : List ℕ) (base : ℕ) (label : List ℕ) (at : ℕ) where
+  pub zeros-alike : RowPair one other base label → WordBytes one at → WordBytes other at → wordAt one at ≡ 0 → wordAt other at ≡ 0
+      → (k end : ℕ) → at ≤ k → k ≤ end → end ≤ at + 8 → FirstFailing (SameLabel one other base label) k end end
+  zeros-alike R X Y ex ey k end low l high = fails-nowhere (SameLabel one other base label) k end l
+      (λ j h b. rw (word-zeros one at X ex j (omega arith) (omega arith), word-zeros other at Y ey j (omega arith) (omega arith)) (R .none))

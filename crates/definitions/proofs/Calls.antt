@@ -1,23 +1,27 @@
--- Demands 2 and 3 and the way over the calls: the books that build leaves in buffers, whatever these held, and what verdict, compare and way answer on them.
+-- Demands 2 and 3, the way and equal bytes over the calls: the books that build leaves in buffers, whatever these held, and what the other calls answer on them.
 use mathlib.Core.Path.{_≡_, refl, sym, ap₂, _∙_, subst⁻¹, subst₂}
+use mathlib.Core.Bool.{true}
+use mathlib.Core.Logic.{_↔_}
 use mathlib.Core.List.{List}
 use Prim.Native.Nat.{ℕ, _≤_, _<_}
 use lib.ListN.{length}
 use borrow.Author.Tests.{le-leb, lt-ltb}
+use Rattle.automaton.specs.Machine.{SameHistories}
 use Rattle.automaton.proofs.Below.{same-list-refl}
 use Rattle.definitions.specs.Answer.{given, written, historyBytes}
 use Rattle.definitions.specs.Policy as P
+use Rattle.definitions.specs.Situation.{policyMachine}
 use Rattle.definitions.specs.Book as B
 use Rattle.definitions.specs.Refusal.{Accepted, bookRefusal, row15}
 use Rattle.definitions.specs.Build.{bookOf, buildRefusal, buildAnswer, buildBuffer}
 use Rattle.definitions.specs.Verdict.{findings, verdictRefusal, verdictAnswer, verdictBuffers}
-use Rattle.definitions.specs.Compare.{comparison, compareRefusal, compareAnswer, compareBuffer}
+use Rattle.definitions.specs.Compare.{sameBytes, comparison, compareRefusal, compareAnswer, compareBuffer}
 use Rattle.definitions.specs.Way.{way, wayRefusal, wayAnswer, wayBuffer}
-use Rattle.definitions.specs.Demands.{bookIn, bookBuilt, buffersWith, JudgedInBuffers, Demand2OfCalls, BooksInBuffers, Demand3OfCalls, WayInBuffer, WayOfCalls}
+use Rattle.definitions.specs.Demands.{bookIn, bookBuilt, buffersWith, JudgedInBuffers, Demand2OfCalls, BooksInBuffers, Demand3OfCalls, WayInBuffer, WayOfCalls, SameBytesOfCalls}
 use Rattle.definitions.proofs.Answers.{given-answer, given-buffer}
 use Rattle.definitions.proofs.Written.{take-written}
 use Rattle.definitions.proofs.BookOf.{built-passes, built-requests, frames-same}
-use Rattle.definitions.proofs.Demands.{demand2, demand3, policy-way}
+use Rattle.definitions.proofs.Demands.{demand2, demand3, policy-way, same-bytes-right}
 
 -- ---- build
 module _ (p buffer : List ℕ) (accepted : Accepted p) (long : 17284 ≤ length buffer) where
@@ -128,3 +132,11 @@ way-of-calls p buffer r outcome history accepted long low few room =
       buffer = way-written b r outcome history passes room few below;
       right = policy-way p accepted r outcome;
     })
+
+pub same-bytes-of-calls : (p q first second : List ℕ) → Accepted p → Accepted q → 17284 ≤ length first → 17284 ≤ length second → SameBytesOfCalls p q first second
+same-bytes-of-calls p q first second one two long-first long-second =
+    let equal = same-bytes-right (bookOf p) (bookOf q) in
+    let books = demand3 p q one two .books in
+    subst₂ (λ (b d : List ℕ). (sameBytes b d ≡ true) ↔ ((P.frame p ≡ P.frame q) × SameHistories (policyMachine p) (policyMachine q)))
+    (sym (book-built p first one long-first)) (sym (book-built q second two long-second))
+    ((λ same. books .0 (equal .0 same)), λ alike. equal .1 (books .1 alike))

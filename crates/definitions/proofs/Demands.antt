@@ -2,9 +2,12 @@
 -- for any book. No theorem here has a hypothesis beyond this: the policies are accepted, or for row 11 and for the starts the rows before row 11 let the files pass, or the books pass
 -- the checks and, where two are compared, have one frame.
 use mathlib.Core.Path.{_≡_, sym, ap, _∙_, subst, subst₂}
+use mathlib.Core.Bool.{true}
 use mathlib.Core.List.{List}
 use Prim.Native.Nat.{ℕ}
+use Rattle.automaton.specs.Below.{sameList}
 use Rattle.automaton.specs.Machine.{possible, SameHistories}
+use Rattle.automaton.proofs.Below.{same-list-refl, same-list-true}
 use Rattle.definitions.specs.Policy as P
 use Rattle.definitions.specs.Situation.{policyMachine}
 use Rattle.definitions.specs.Book as B
@@ -13,7 +16,7 @@ use Rattle.definitions.specs.Build.{bookOf}
 use Rattle.definitions.specs.Verdict.{findings}
 use Rattle.definitions.specs.Compare.{comparison}
 use Rattle.definitions.specs.Way.{way}
-use Rattle.definitions.specs.Demands.{FindingsAreRight, Demand2, Demand3, WayIsRight}
+use Rattle.definitions.specs.Demands.{FindingsAreRight, Demand2, Demand3, WayIsRight, SameBytesIsRight}
 use Rattle.definitions.proofs.Accepted.{book-passed}
 use Rattle.definitions.proofs.BookOf.{built-frame, built-events, built-requests, built-histories, built-passes, frames-same, books-same}
 use Rattle.definitions.proofs.SameHistories.{findings-along, comparison-along, way-along}
@@ -80,3 +83,6 @@ policy-way p accepted r outcome =
     let b = bookOf p in
     way-along (B.bookMachine b) (policyMachine p) (built-histories p accepted) (P.events p) r outcome (way b r outcome)
     (subst (λ (E : ℕ). WayIsRight (B.bookMachine b) E r outcome (way b r outcome)) (built-events p accepted) (ways-right b (built-passes p accepted) .ways r outcome))
+
+pub same-bytes-right : (x y : List ℕ) → SameBytesIsRight x y
+same-bytes-right x y = (same-list-true x y, λ e. subst (λ (z : List ℕ). sameList x z ≡ true) e (same-list-refl x))

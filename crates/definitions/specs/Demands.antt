@@ -20,7 +20,7 @@ use Rattle.definitions.specs.Refusal.{policyRefusal, bookRefusal}
 use Rattle.definitions.specs.Answer.{Answer, refused, given, written, historyBytes}
 use Rattle.definitions.specs.Build.{bookOf, buildAnswer, buildBuffer}
 use Rattle.definitions.specs.Verdict.{Found, Findings, findings, foundHistory, verdictAnswer, Buffers, verdictBuffers, conflict, missing, blocked}
-use Rattle.definitions.specs.Compare.{comparison, compareAnswer, compareBuffer}
+use Rattle.definitions.specs.Compare.{sameBytes, comparison, compareAnswer, compareBuffer}
 use Rattle.definitions.specs.Telling.{Telling, toTelling, telling, outcomeOf}
 use Rattle.definitions.specs.Shelf.{blank, newline}
 use Rattle.definitions.specs.Page.{threeColumns, dashes, letter, page}
@@ -286,3 +286,12 @@ pub record WayInBuffer (p b : List ℕ) (r outcome : ℕ) (history : List ℕ) :
 
 abbrev pub WayOfCalls : List ℕ → List ℕ → ℕ → ℕ → List ℕ → Type 0
 WayOfCalls p buffer r outcome history = WayInBuffer p (bookBuilt p buffer) r outcome history
+
+-- ---- request 4 of document 02: "the plain test whether two books have equal bytes", of any two strings
+abbrev pub SameBytesIsRight : List ℕ → List ℕ → Type 0
+SameBytesIsRight x y = (sameBytes x y ≡ true) ↔ (x ≡ y)
+
+-- over the calls: what build leaves in two buffers has equal bytes exactly when the frames are equal and the same histories are possible
+abbrev pub SameBytesOfCalls : List ℕ → List ℕ → List ℕ → List ℕ → Type 0
+SameBytesOfCalls p q first second =
+    (sameBytes (bookBuilt p first) (bookBuilt q second) ≡ true) ↔ ((P.frame p ≡ P.frame q) × SameHistories (policyMachine p) (policyMachine q))

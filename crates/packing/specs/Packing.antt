@@ -1,7 +1,9 @@
 -- How an answer of document 01 is packed into the one number that a C function returns (docs/C-INTERFACE.md).
+use mathlib.Core.Bool.{Bool}
 use mathlib.Core.Option.{Option, none, some}
 use Prim.Native.Nat.{ℕ, _+_, _*_, _^_}
 use lib.ListN.{length}
+use Rattle.automaton.specs.Below.{one}
 use Rattle.automaton.specs.History.{History}
 use Rattle.definitions.specs.Answer.{Answer, refused, given, historyBytes}
 use Rattle.definitions.specs.Verdict.{Found, Findings}
@@ -10,6 +12,10 @@ use Rattle.definitions.specs.Verdict.{Found, Findings}
 abbrev pub packed : {A : Type 0} → (A → ℕ) → Answer A → ℕ
 packed value (refused number) = number
 packed value (given a) = 256 * value a
+
+-- what the test for equal bytes answers, which refuses nothing: 1 for equal, 0 for not
+abbrev pub equalOrNot : Bool → ℕ
+equalOrNot same = one same
 
 -- the value of build: the book's length
 abbrev pub bookLength : ℕ → ℕ

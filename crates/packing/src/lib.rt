@@ -9,7 +9,7 @@ ghost use Rattle.verdict.specs.VerdictAnswer.{foundOf, blockedOf, judgedAnswer}
 ghost use Rattle.verdict.specs.AnswerBounds.{BlockedWithin, FindingWithin, FindingsWithin, JudgedWithin};
 ghost use Rattle.way.specs.ShownAnswer.{shownAnswer};
 ghost use Rattle.compare.specs.ComparedAnswer.{comparedAnswer};
-ghost use Rattle.packing.specs.Packing.{packed, bookLength, pageLength, lengthOrNone, foundValue, findingsValue, historyLength};
+ghost use Rattle.packing.specs.Packing.{packed, equalOrNot, bookLength, pageLength, lengthOrNone, foundValue, findingsValue, historyLength};
 ghost use Rattle.packing.specs.PackedBounds.{BuiltWithin, PagedWithin, ShownWithin, ComparedWithin};
 use build::Built;
 use compare::Compared;
@@ -115,4 +115,14 @@ pub fn pack_compare(compared: Compared) -> u64
         Compared::Same => 0,
         Compared::Differ(length) => 256 * (length as u64),
     }
+}
+
+// The number for what the test for equal bytes returns.
+pub fn pack_same_bytes(same: bool) -> u64
+    ensures { λ r. ⌜ r ≡ equalOrNot same ⌝ }
+{
+    if same {
+        return 1;
+    }
+    0
 }

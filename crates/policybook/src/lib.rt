@@ -1,15 +1,16 @@
-// The library for C: build, verdict, compare, page and way on byte slices, each answer packed into one number.
+// The library for C: build, verdict, compare, page, way and the test for equal bytes on byte slices, each answer one number.
 ghost use mathlib.Core.Path.{_≡_};
 ghost use Rattle.definitions.specs.Build.{buildAnswer, buildBuffer};
 ghost use Rattle.definitions.specs.Verdict.{verdictAnswer, verdictBuffers};
-ghost use Rattle.definitions.specs.Compare.{compareAnswer, compareBuffer};
+ghost use Rattle.definitions.specs.Compare.{sameBytes, compareAnswer, compareBuffer};
 ghost use Rattle.definitions.specs.Page.{pageAnswer, pageBuffer};
 ghost use Rattle.definitions.specs.Way.{wayAnswer, wayBuffer};
 ghost use Rattle.verdict.specs.VerdictAnswer.{buffersAfter};
-ghost use Rattle.packing.specs.Packing.{packed, bookLength, findingsValue, historyLength, pageLength, lengthOrNone};
+ghost use Rattle.packing.specs.Packing.{packed, equalOrNot, bookLength, findingsValue, historyLength, pageLength, lengthOrNone};
 use packing::pack_build;
 use packing::pack_compare;
 use packing::pack_page;
+use packing::pack_same_bytes;
 use packing::pack_verdict;
 use packing::pack_way;
 
@@ -71,4 +72,12 @@ pub extern "C" fn policybook_way(
     ensures { λ r. ⌜ now (history .exit) ≡ wayBuffer (now (book .entry)) request outcome (now (history .entry)) ⌝ }
 {
     pack_way(way::way(book, request, outcome, history))
+}
+
+// Whether two byte strings, books or not, have equal bytes: 1 if so, else 0. Nothing is refused.
+#[no_mangle]
+pub extern "C" fn policybook_same_bytes(first: &[u8], second: &[u8]) -> u64
+    ensures { λ r. ⌜ r ≡ equalOrNot (sameBytes (now (first .entry)) (now (second .entry))) ⌝ }
+{
+    pack_same_bytes(book::same_bytes(first, second))
 }

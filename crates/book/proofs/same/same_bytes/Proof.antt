@@ -1,59 +1,60 @@
--- `same_bytes` meets its contract: `same` says whether the bytes passed so far are equal.
-use mathlib.Core.Bool.{Bool, _&&_}
-use mathlib.Core.Path.{_≡_, refl, sym, ap, _∙_}
-use Prim.Native.Nat.{ℕ, suc, _+_, _-_, _≤_}
+-- `same_bytes` meets its contract: the blocks passed so far are equal.
+use mathlib.Core.Path.{ap}
+use Prim.Native.Nat.{_-_}
 use native.Mathlib.Omega.{arith}
 use lib.ListN.{length}
+use Rattle.book.specs.SameBytes.{SameSoFar}
+use Rattle.book.proofs.Equal.{lists-differ, nothing-read, more-read, part-differs}
 use borrow.Author.Needs.{needs}
-use Rattle.automaton.specs.Below.{allBelow}
-use Rattle.book.proofs.Equal.{lists-differ, sameAt, same-everywhere}
 use Rattle.book.proofs.same.same_bytes.Statement.{statement}
 use Rattle.book.proofs.same.same_bytes.Tie as tie
-
-all-next : (f : ℕ → Bool) (i : ℕ) → allBelow (i + 1) f ≡ (allBelow i f && f i)
-all-next f i = let next : i + 1 ≡ suc i = omega arith in ap (λ (k : ℕ). allBelow k f) next
+use Rattle.book.proofs.same.same_bytes.Reads as reads
+use Rattle.book.proofs.same.same_bytes.Lts as lts
+use Rattle.book.proofs.same.difference.Reads as difference-reads
+use Rattle.book.proofs.same.same_words.Reads as same-words-reads
 
 abbrev Inv-loop : tie.InvT-loop
-Inv-loop first second same₀ i₀ same i = (i ≤ length first) × (same ≡ allBelow i (sameAt first second))
+Inv-loop first second k₀ k = SameSoFar first second k
 
 abbrev μ-loop : tie.MeasureT-loop
-μ-loop first second same₀ i₀ same i = length first - i
+μ-loop first second k₀ k = length first - k
 
 returns : tie.Need-returns Inv-loop μ-loop
 returns c =
     let a = c .before .before .before .args in
-    lists-differ (a .first .now) (a .second .now) (λ e. omega (arith, ap length e))
+    lists-differ (a .first .now) (a .second .now) (λ e. c .if1 .taken (ap length e))
 
 loop-holds : tie.Need-loop-holds Inv-loop μ-loop
-loop-holds c = (search needs, refl)
+loop-holds c = nothing-read _ _ (c .if1 .left)
 
-shared-slice-read-still-same : tie.Need-shared-slice-read-still-same Inv-loop μ-loop
-shared-slice-read-still-same c = search needs
+add-loop : tie.Need-add-loop Inv-loop μ-loop
+add-loop c = search needs
 
-shared-slice-read-still-same-2 : tie.Need-shared-slice-read-still-same-2 Inv-loop μ-loop
-shared-slice-read-still-same-2 c = search needs
+difference-requires : tie.Need-difference-requires Inv-loop μ-loop
+difference-requires c κs = (search needs, omega (arith, c .before .loop .inv .lengths))
 
-still-same-requires : tie.Need-still-same-requires Inv-loop μ-loop
-still-same-requires c κs = search needs
+returns-2 : tie.Need-returns-2 Inv-loop μ-loop
+returns-2 c =
+    let a = c .before .before .before .before .before .before .before .args in
+    part-differs (a .first .now) (a .second .now) 64 (c .before .before .before .loop .k) (λ same. c .if2 .taken (c .before .difference .ensures .1 same))
 
-add-i : tie.Need-add-i Inv-loop μ-loop
-add-i c = search needs
+add-k : tie.Need-add-k Inv-loop μ-loop
+add-k c = search needs
 
 loop-less : tie.Need-loop-less Inv-loop μ-loop
 loop-less c = search needs
 
 loop-again : tie.Need-loop-again Inv-loop μ-loop
 loop-again c =
-    let a = c .before .before .before .before .before .before .before .before .args in
-    let l = c .before .before .before .before .loop in
-    (omega arith, c .still-same .ensures ∙ ap (λ (b : Bool). b && sameAt (a .first .now) (a .second .now) (l .i)) (l .inv .1) ∙ sym (all-next (sameAt (a .first .now) (a .second .now)) (l .i)))
+    let a = c .before .before .before .before .before .before .before .args in
+    let l = c .before .before .before .loop in
+    more-read (a .first .now) (a .second .now) (l .k) 64 (l .inv) (omega arith) (c .before .difference .ensures .0 (c .if2 .left))
 
-returns-2 : tie.Need-returns-2 Inv-loop μ-loop
-returns-2 c =
-    let a = c .before .before .before .before .before .args in
-    let l = c .before .loop in
-    let end : l .i ≡ length (a .first .now) = omega arith in
-    l .inv .1 ∙ ap (λ (k : ℕ). allBelow k (sameAt (a .first .now) (a .second .now))) end ∙ same-everywhere (a .first .now) (a .second .now) (omega arith)
+same-words-requires : tie.Need-same-words-requires Inv-loop μ-loop
+same-words-requires c κs = c .before .loop .inv
+
+returns-3 : tie.Need-returns-3 Inv-loop μ-loop
+returns-3 c = c .same-words .ensures
 
 pub same-bytes-spec : {M : Type 1} → statement M
 same-bytes-spec =
@@ -63,10 +64,11 @@ same-bytes-spec =
     μ-loop
     returns
     loop-holds
-    shared-slice-read-still-same
-    shared-slice-read-still-same-2
-    still-same-requires
-    add-i
+    add-loop
+    difference-requires
+    returns-2
+    add-k
     loop-less
     loop-again
-    returns-2)
+    same-words-requires
+    returns-3)

@@ -1,0 +1,16 @@
+-- `policybook_same_bytes` meets its contract.
+use borrow.Author.Needs.{needs}
+use Rattle.policybook.proofs.policybook_same_bytes.Statement.{statement}
+use Rattle.policybook.proofs.policybook_same_bytes.Tie as tie
+
+same-bytes-requires : tie.Need-same-bytes-requires
+same-bytes-requires c κs = search needs
+
+pack-same-bytes-requires : tie.Need-pack-same-bytes-requires
+pack-same-bytes-requires c κs = search needs
+
+returns : tie.Need-returns
+returns c = rw (← c .before .same-bytes .ensures) (c .pack-same-bytes .ensures)
+
+pub policybook-same-bytes-spec : {M : Type 1} → statement M
+policybook-same-bytes-spec = tie.close (tie.spec same-bytes-requires pack-same-bytes-requires returns)
