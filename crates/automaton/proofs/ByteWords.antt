@@ -87,17 +87,14 @@ xor-zero a b = (
   λ e. rw e (xor-self b),
 )
 
--- the difference of two words besides what n numbers before them gave
-pub word-gathered : (xs ys : List ℕ) (j k n gathered : ℕ) → (gathered ≡ 0) ↔ SamePart n xs j ys k → WordBytes xs (j + n) → WordBytes ys (k + n)
-    → (bitOr gathered (bitXor (wordAt xs (j + n)) (wordAt ys (k + n))) ≡ 0) ↔ SamePart (n + 8) xs j ys k
-word-gathered xs ys j k n gathered before X Y =
-    let x = wordAt xs (j + n) in
-    let y = wordAt ys (k + n) in
-    let words = words-equal xs ys (j + n) (k + n) X Y in (
-      (λ e.
-          let none = or-zero gathered (bitXor x y) .0 e in
-          parts-joined xs ys j k n 8 (before .0 (none .0)) (words .0 (xor-zero x y .0 (none .1)))),
-      λ all.
-          let part = parts-apart xs ys j k n 8 all in
-          or-zero gathered (bitXor x y) .1 (before .1 (part .0), xor-zero x y .1 (words .1 (part .1))),
-    )
+-- the difference of two numbers that are equal exactly when m places are, besides what n places before them gave
+pub gathered-more : (xs ys : List ℕ) (j k m n x y gathered : ℕ) → (gathered ≡ 0) ↔ SamePart n xs j ys k → (x ≡ y) ↔ SamePart m xs (j + n) ys (k + n)
+    → (bitOr gathered (bitXor x y) ≡ 0) ↔ SamePart (n + m) xs j ys k
+gathered-more xs ys j k m n x y gathered before equal = (
+  (λ e.
+      let none = or-zero gathered (bitXor x y) .0 e in
+      parts-joined xs ys j k n m (before .0 (none .0)) (equal .0 (xor-zero x y .0 (none .1)))),
+  λ all.
+      let part = parts-apart xs ys j k n m all in
+      or-zero gathered (bitXor x y) .1 (before .1 (part .0), xor-zero x y .1 (equal .1 (part .1))),
+)

@@ -1,7 +1,9 @@
-// Equal bytes: of any two byte strings, and of the frames of two books.
+// Equal bytes: of any two byte strings, and of the frames of two books. Strings are read from the front: eight words a turn, then single words, then the single
+// bytes after the last whole word.
 ghost use mathlib.Core.Path.{_≡_};
 ghost use mathlib.Core.Logic.{_↔_};
 ghost use Prim.Native.Nat.{_+_, _≤_};
+ghost use lib.Dec.{eqb};
 ghost use lib.ListN.{length};
 ghost use Rattle.automaton.specs.Below.{sameList};
 ghost use Rattle.automaton.specs.ByteWords.{SamePart};
@@ -10,9 +12,9 @@ ghost use Rattle.definitions.specs.Compare.{sameBytes};
 ghost use Rattle.book.specs.SameBytes.{SameSoFar};
 use automaton::word;
 
-// What differs in the 64 bytes from place k on, gathered from eight words: 0 where they are equal. There is no way out before the last word, so that the compiler
-// makes vector code of it.
-fn difference(first: &[u8], second: &[u8], k: usize) -> usize
+// The differences of eight words from place k on, gathered: 0 where there is none. Nothing is decided before the last word, so that the compiler makes vector
+// code of it.
+fn word_differences(first: &[u8], second: &[u8], k: usize) -> usize
     requires { ⌜ (k + 64 ≤ length (now first)) × (k + 64 ≤ length (now second)) ⌝ }
     ensures { λ r. ⌜ (r ≡ 0) ↔ SamePart 64 (now (first .entry)) k (now (second .entry)) k ⌝ }
 {
@@ -25,22 +27,50 @@ fn difference(first: &[u8], second: &[u8], k: usize) -> usize
     gathered
 }
 
-// Whether two strings are equal that are so up to a place: single bytes.
-fn same_tail(first: &[u8], second: &[u8], from: usize) -> bool
+// The same for four single bytes.
+fn byte_differences(first: &[u8], second: &[u8], k: usize) -> u8
+    requires { ⌜ (k + 4 ≤ length (now first)) × (k + 4 ≤ length (now second)) ⌝ }
+    ensures { λ r. ⌜ (r ≡ 0) ↔ SamePart 4 (now (first .entry)) k (now (second .entry)) k ⌝ }
+{
+    let mut gathered = 0;
+    let mut n = 0;
+    while n < 4 {
+        gathered |= first[k + n] ^ second[k + n];
+        n += 1;
+    }
+    gathered
+}
+
+// The first place at which two strings of one length differ that are the same up to `from`; their length if there is none.
+fn first_unequal(first: &[u8], second: &[u8], from: usize) -> usize
     requires { ⌜ SameSoFar (now first) (now second) from ⌝ }
-    ensures { λ r. ⌜ r ≡ sameBytes (now (first .entry)) (now (second .entry)) ⌝ }
+    ensures { λ r. ⌜ eqb r (length (now (first .entry))) ≡ sameBytes (now (first .entry)) (now (second .entry)) ⌝ }
 {
     let mut k = from;
     while k < first.len() {
         if first[k] != second[k] {
-            return false;
+            return k;
         }
         k += 1;
     }
-    true
+    first.len()
 }
 
-// The same: words where eight bytes remain, then single bytes.
+// Whether two strings of one length are equal that are the same up to `from`: single bytes, four at once where four remain.
+fn same_tail(first: &[u8], second: &[u8], from: usize) -> bool
+    requires { ⌜ SameSoFar (now first) (now second) from ⌝ }
+    ensures { λ r. ⌜ r ≡ sameBytes (now (first .entry)) (now (second .entry)) ⌝ }
+{
+    if from + 4 <= first.len() {
+        if byte_differences(first, second, from) != 0 {
+            return false;
+        }
+        return first_unequal(first, second, from + 4) == first.len();
+    }
+    first_unequal(first, second, from) == first.len()
+}
+
+// The same by words where eight bytes remain.
 fn same_words(first: &[u8], second: &[u8], from: usize) -> bool
     requires { ⌜ SameSoFar (now first) (now second) from ⌝ }
     ensures { λ r. ⌜ r ≡ sameBytes (now (first .entry)) (now (second .entry)) ⌝ }
@@ -55,16 +85,19 @@ fn same_words(first: &[u8], second: &[u8], from: usize) -> bool
     same_tail(first, second, k)
 }
 
-// Whether two byte strings, books or not, are equal. Eight words a turn where as many remain.
+// Whether two byte strings, books or not, are equal. A string without a whole word goes straight to its single bytes, and the compiler unrolls their loop.
 pub fn same_bytes(first: &[u8], second: &[u8]) -> bool
     ensures { λ r. ⌜ r ≡ sameBytes (now (first .entry)) (now (second .entry)) ⌝ }
 {
     if first.len() != second.len() {
         return false;
     }
+    if first.len() < 8 {
+        return first_unequal(first, second, 0) == first.len();
+    }
     let mut k = 0;
     while k + 64 <= first.len() {
-        if difference(first, second, k) != 0 {
+        if word_differences(first, second, k) != 0 {
             return false;
         }
         k += 64;
@@ -77,5 +110,5 @@ pub fn same_frame(first: &[u8], second: &[u8]) -> bool
     requires { ⌜ (12 ≤ length (now first)) × (12 ≤ length (now second)) ⌝ }
     ensures { λ r. ⌜ r ≡ sameList (frame (now (first .entry))) (frame (now (second .entry))) ⌝ }
 {
-    same_bytes(&first[5..11], &second[5..11])
+    same_tail(&first[5..11], &second[5..11], 0)
 }

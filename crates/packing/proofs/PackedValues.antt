@@ -1,6 +1,8 @@
 -- What a packed number tells: modulo 256 the refusal's number, so that a refusal is told from every other answer, and divided by 256 the value. Each
--- finding is read off verdict's value again.
-use mathlib.Core.Path.{_≡_, refl}
+-- finding is read off verdict's value again. And what the number for equal bytes tells, which is not packed.
+use mathlib.Core.Bool.{Bool, true, false, false≢true}
+use mathlib.Core.Logic.{_↔_}
+use mathlib.Core.Path.{_≡_, refl, sym, _∙_}
 use mathlib.Core.List.{List}
 use mathlib.Core.Option.{Option, none, some}
 use Prim.Native.Nat.{ℕ, zero, suc, _+_, _*_, _^_, _/_, _%_, _≤_, _<_}
@@ -11,11 +13,12 @@ use Rattle.definitions.specs.Answer.{answer}
 use Rattle.definitions.specs.Refusal.{bookRefusal}
 use Rattle.definitions.specs.Build.{bookOf, buildRefusal, buildAnswer}
 use Rattle.definitions.specs.Verdict.{Found, conflict, missing, blocked, findings, verdictRefusal, verdictAnswer}
-use Rattle.definitions.specs.Compare.{comparison, compareRefusal, compareAnswer}
+use Rattle.definitions.specs.Compare.{sameBytes, comparison, compareRefusal, compareAnswer}
 use Rattle.definitions.specs.Book.{states}
 use Rattle.definitions.specs.Page.{pageRefusal, pageAnswer}
 use Rattle.definitions.specs.Way.{way, wayRefusal, wayAnswer}
-use Rattle.packing.specs.Packing.{packed, bookLength, pageLength, historyLength, lengthOrNone, foundValue, findingsValue}
+use Rattle.packing.specs.Packing.{packed, equalOrNot, bookLength, pageLength, historyLength, lengthOrNone, foundValue, findingsValue}
+use Rattle.definitions.proofs.Demands.{same-bytes-right}
 use Rattle.verdict.proofs.SmallFindings.{SmallFound, findings-small}
 use Rattle.packing.proofs.RefusalBounds.{build-refusal-small, verdict-refusal-small, page-refusal-small, way-refusal-small, compare-refusal-small}
 
@@ -49,6 +52,14 @@ way-told b r outcome buffer = tells (wayRefusal b r outcome buffer) lengthOrNone
 pub compare-told : (b d buffer : List ℕ) → Tells (compareRefusal b d buffer) (historyLength (comparison b d)) (packed historyLength (compareAnswer b d buffer))
 unfolding compareAnswer
 compare-told b d buffer = tells (compareRefusal b d buffer) historyLength (comparison b d) (compare-refusal-small b d buffer)
+
+-- ---- equal bytes: 1 exactly for equal strings, else 0
+pub same-bytes-told : (x y : List ℕ) → ((equalOrNot (sameBytes x y) ≡ 1) ↔ (x ≡ y)) × (equalOrNot (sameBytes x y) ≤ 1)
+same-bytes-told x y = go (sameBytes x y) refl
+  where
+    go : (same : Bool) → sameBytes x y ≡ same → ((equalOrNot same ≡ 1) ↔ (x ≡ y)) × (equalOrNot same ≤ 1)
+    go true e = (((λ _. same-bytes-right x y .0 e), λ _. refl), omega arith)
+    go false e = (((λ z. absurd (omega (arith, z))), λ equal. absurd (false≢true (sym e ∙ same-bytes-right x y .1 equal))), omega arith)
 
 -- ---- the findings
 pub finding-told : (t : Found) → SmallFound t → (foundValue (some t) % 256 ≡ length (t .history) + 1) × (foundValue (some t) / 256 ≡ t .request)

@@ -33,6 +33,10 @@ callCases =
     -- "books or not"
     ∷ says (sameBytes (bookOf policyC) bookA) true
     ∷ says (sameBytes bookA (take 26 bookA)) false
+    ∷ says (sameBytes (take 26 bookA) bookA) false
+    ∷ says (sameBytes bookA (take 26 bookA ++ (3 ∷ []))) true
+    ∷ says (sameBytes bookA (take 26 bookA ++ (2 ∷ []))) false
+    ∷ says (sameBytes (take 24 bookA) (0 ∷ take 23 bookA)) false
     ∷ says (sameBytes [] []) true
     ∷ builds (openAnswer bookA) (given 1)
     ∷ tells (tellAnswer bookA 1 1) (given accept)

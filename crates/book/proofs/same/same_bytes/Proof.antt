@@ -8,10 +8,6 @@ use Rattle.book.proofs.Equal.{lists-differ, nothing-read, more-read, pa
 use borrow.Author.Needs.{needs}
 use Rattle.book.proofs.same.same_bytes.Statement.{statement}
 use Rattle.book.proofs.same.same_bytes.Tie as tie
-use Rattle.book.proofs.same.same_bytes.Reads as reads
-use Rattle.book.proofs.same.same_bytes.Lts as lts
-use Rattle.book.proofs.same.difference.Reads as difference-reads
-use Rattle.book.proofs.same.same_words.Reads as same-words-reads
 
 abbrev Inv-loop : tie.InvT-loop
 Inv-loop first second k₀ k = SameSoFar first second k
@@ -24,19 +20,25 @@ returns c =
     let a = c .before .before .before .args in
     lists-differ (a .first .now) (a .second .now) (λ e. c .if1 .taken (ap length e))
 
+first-unequal-requires : tie.Need-first-unequal-requires Inv-loop μ-loop
+first-unequal-requires c κs = nothing-read _ _ (c .before .if1 .left)
+
+returns-2 : tie.Need-returns-2 Inv-loop μ-loop
+returns-2 c = c .first-unequal .ensures
+
 loop-holds : tie.Need-loop-holds Inv-loop μ-loop
-loop-holds c = nothing-read _ _ (c .if1 .left)
+loop-holds c = nothing-read _ _ (c .before .if1 .left)
 
 add-loop : tie.Need-add-loop Inv-loop μ-loop
 add-loop c = search needs
 
-difference-requires : tie.Need-difference-requires Inv-loop μ-loop
-difference-requires c κs = (search needs, omega (arith, c .before .loop .inv .lengths))
+word-differences-requires : tie.Need-word-differences-requires Inv-loop μ-loop
+word-differences-requires c κs = (search needs, omega (arith, c .before .loop .inv .lengths))
 
-returns-2 : tie.Need-returns-2 Inv-loop μ-loop
-returns-2 c =
-    let a = c .before .before .before .before .before .before .before .args in
-    part-differs (a .first .now) (a .second .now) 64 (c .before .before .before .loop .k) (λ same. c .if2 .taken (c .before .difference .ensures .1 same))
+returns-3 : tie.Need-returns-3 Inv-loop μ-loop
+returns-3 c =
+    let a = c .before .before .before .before .before .before .before .before .args in
+    part-differs (a .first .now) (a .second .now) 64 (c .before .before .before .loop .k) (λ same. c .if3 .taken (c .before .word-differences .ensures .1 same))
 
 add-k : tie.Need-add-k Inv-loop μ-loop
 add-k c = search needs
@@ -46,15 +48,15 @@ loop-less c = search needs
 
 loop-again : tie.Need-loop-again Inv-loop μ-loop
 loop-again c =
-    let a = c .before .before .before .before .before .before .before .args in
+    let a = c .before .before .before .before .before .before .before .before .args in
     let l = c .before .before .before .loop in
-    more-read (a .first .now) (a .second .now) (l .k) 64 (l .inv) (omega arith) (c .before .difference .ensures .0 (c .if2 .left))
+    more-read (a .first .now) (a .second .now) (l .k) 64 (l .inv) (omega arith) (c .before .word-differences .ensures .0 (c .if3 .left))
 
 same-words-requires : tie.Need-same-words-requires Inv-loop μ-loop
 same-words-requires c κs = c .before .loop .inv
 
-returns-3 : tie.Need-returns-3 Inv-loop μ-loop
-returns-3 c = c .same-words .ensures
+returns-4 : tie.Need-returns-4 Inv-loop μ-loop
+returns-4 c = c .same-words .ensures
 
 pub same-bytes-spec : {M : Type 1} → statement M
 same-bytes-spec =
@@ -63,12 +65,14 @@ same-bytes-spec =
     Inv-loop
     μ-loop
     returns
+    first-unequal-requires
+    returns-2
     loop-holds
     add-loop
-    difference-requires
-    returns-2
+    word-differences-requires
+    returns-3
     add-k
     loop-less
     loop-again
     same-words-requires
-    returns-3)
+    returns-4)

@@ -1,66 +1,47 @@
--- `same_tail` meets its contract: the bytes passed so far are equal.
-use Prim.Native.Nat.{_-_}
+-- `same_tail` meets its contract.
 use native.Mathlib.Omega.{arith}
-use lib.ListN.{length}
-use Rattle.automaton.proofs.ByteWords.{part-of-one}
-use Rattle.book.specs.SameBytes.{SameSoFar}
-use Rattle.book.proofs.Equal.{more-read, part-differs, all-read}
+use Rattle.book.proofs.Equal.{more-read, part-differs}
 use borrow.Author.Needs.{needs}
 use Rattle.book.proofs.same.same_tail.Statement.{statement}
 use Rattle.book.proofs.same.same_tail.Tie as tie
-use Rattle.book.proofs.same.same_tail.Reads as reads
-use Rattle.book.proofs.same.same_tail.Lts as lts
 
-abbrev Inv-loop : tie.InvT-loop
-Inv-loop first second from k₀ k = SameSoFar first second k
+add-if1 : tie.Need-add-if1
+add-if1 c = search needs
 
-abbrev μ-loop : tie.MeasureT-loop
-μ-loop first second from k₀ k = length first - k
+byte-differences-requires : tie.Need-byte-differences-requires
+byte-differences-requires c κs = search needs
 
-loop-holds : tie.Need-loop-holds Inv-loop μ-loop
-loop-holds c = c .pre
-
-shared-slice-read-if1 : tie.Need-shared-slice-read-if1 Inv-loop μ-loop
-shared-slice-read-if1 c = search needs
-
-shared-slice-read-if1-2 : tie.Need-shared-slice-read-if1-2 Inv-loop μ-loop
-shared-slice-read-if1-2 c = omega (arith, c .before .before .before .loop .inv .lengths)
-
-returns : tie.Need-returns Inv-loop μ-loop
+returns : tie.Need-returns
 returns c =
     let a = c .before .before .before .before .before .args in
-    let k = c .before .before .before .before .loop .k in
-    part-differs (a .first .now) (a .second .now) 1 k (λ same. c .if1 .taken (part-of-one (a .first .now) (a .second .now) k k .1 same))
+    part-differs (a .first .now) (a .second .now) 4 (a .from) (λ same. c .if2 .taken (c .before .byte-differences .ensures .1 same))
 
-add-k : tie.Need-add-k Inv-loop μ-loop
-add-k c = search needs
+add-first-unequal : tie.Need-add-first-unequal
+add-first-unequal c = search needs
 
-loop-less : tie.Need-loop-less Inv-loop μ-loop
-loop-less c = search needs
+first-unequal-requires : tie.Need-first-unequal-requires
+first-unequal-requires c κs =
+    let o = c .before .before .before .before .before in
+    more-read (o .args .first .now) (o .args .second .now) (o .args .from) 4 (o .pre) (omega arith) (c .before .byte-differences .ensures .0 (c .if2 .left))
 
-loop-again : tie.Need-loop-again Inv-loop μ-loop
-loop-again c =
-    let a = c .before .before .before .before .before .args in
-    let l = c .before .before .before .before .loop in
-    more-read (a .first .now) (a .second .now) (l .k) 1 (l .inv) (omega arith) (part-of-one (a .first .now) (a .second .now) (l .k) (l .k) .0 (c .if1 .left))
+returns-2 : tie.Need-returns-2
+returns-2 c = search needs
 
-returns-2 : tie.Need-returns-2 Inv-loop μ-loop
-returns-2 c =
-    let a = c .before .before .args in
-    let l = c .before .loop in
-    all-read (a .first .now) (a .second .now) (l .k) (l .inv) (omega arith)
+first-unequal-requires-2 : tie.Need-first-unequal-requires-2
+first-unequal-requires-2 c κs = search needs
+
+returns-3 : tie.Need-returns-3
+returns-3 c = search needs
 
 pub same-tail-spec : {M : Type 1} → statement M
 same-tail-spec =
     tie.close
     (tie.spec
-    Inv-loop
-    μ-loop
-    loop-holds
-    shared-slice-read-if1
-    shared-slice-read-if1-2
+    add-if1
+    byte-differences-requires
     returns
-    add-k
-    loop-less
-    loop-again
-    returns-2)
+    add-first-unequal
+    first-unequal-requires
+    returns-2
+    first-unequal-requires-2
+    returns-3)

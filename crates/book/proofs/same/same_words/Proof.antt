@@ -8,10 +8,6 @@ use Rattle.book.proofs.Equal.{more-read, part-differs}
 use borrow.Author.Needs.{needs}
 use Rattle.book.proofs.same.same_words.Statement.{statement}
 use Rattle.book.proofs.same.same_words.Tie as tie
-use Rattle.book.proofs.same.same_words.Reads as reads
-use Rattle.book.proofs.same.same_words.Lts as lts
-use Rattle.automaton.proofs.word.Reads as word-reads
-use Rattle.book.proofs.same.same_tail.Reads as same-tail-reads
 
 abbrev Inv-loop : tie.InvT-loop
 Inv-loop first second from k₀ k = SameSoFar first second k

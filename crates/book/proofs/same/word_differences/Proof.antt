@@ -1,16 +1,13 @@
--- `difference` meets its contract: what is gathered after n bytes is 0 exactly when these are equal.
+-- `word_differences` meets its contract: what is gathered after n bytes is 0 exactly when these are equal.
 use mathlib.Core.Path.{_≡_, refl}
 use mathlib.Core.Logic.{_↔_}
-use Prim.Native.Nat.{_-_, _%_, _≤_}
+use Prim.Native.Nat.{_+_, _-_, _%_, _≤_}
 use native.Mathlib.Omega.{arith}
 use Rattle.automaton.specs.ByteWords.{SamePart}
-use Rattle.automaton.proofs.ByteWords.{word-gathered}
+use Rattle.automaton.proofs.ByteWords.{words-equal, gathered-more}
 use borrow.Author.Needs.{needs}
-use Rattle.book.proofs.same.difference.Statement.{statement}
-use Rattle.book.proofs.same.difference.Tie as tie
-use Rattle.book.proofs.same.difference.Reads as reads
-use Rattle.book.proofs.same.difference.Lts as lts
-use Rattle.automaton.proofs.word.Reads as word-reads
+use Rattle.book.proofs.same.word_differences.Statement.{statement}
+use Rattle.book.proofs.same.word_differences.Tie as tie
 
 abbrev Inv-loop : tie.InvT-loop
 Inv-loop first second k gathered₀ n₀ gathered n = (n ≤ 64) × (n % 8 ≡ 0) × ((gathered ≡ 0) ↔ SamePart n first k second k)
@@ -43,8 +40,11 @@ loop-again : tie.Need-loop-again Inv-loop μ-loop
 loop-again c =
     let a = c .before .before .before .before .before .before .args in
     let l = c .before .before .before .loop in
-    let gathered = word-gathered (a .first .now) (a .second .now) (a .k) (a .k) (l .n) (l .gathered) (l .inv .2) (c .before .word .ensures .1) (c .word2 .ensures .1) in
-    (omega arith, omega arith, rw (c .before .word .ensures .0, c .word2 .ensures .0) gathered)
+    let x = c .before .word in
+    let y = c .word2 in
+    let equal : (x .result ≡ y .result) ↔ SamePart 8 (a .first .now) (a .k + l .n) (a .second .now) (a .k + l .n) =
+    rw (x .ensures .0, y .ensures .0) (words-equal (a .first .now) (a .second .now) (a .k + l .n) (a .k + l .n) (x .ensures .1) (y .ensures .1)) in
+    (omega arith, omega arith, gathered-more (a .first .now) (a .second .now) (a .k) (a .k) 8 (l .n) (x .result) (y .result) (l .gathered) (l .inv .2) equal)
 
 returns : tie.Need-returns Inv-loop μ-loop
 returns c =
@@ -52,8 +52,8 @@ returns c =
     let all : l .n ≡ 64 = omega (arith, l .inv .0, l .inv .1) in
     rw all at (l .inv .2)
 
-pub difference-spec : {M : Type 1} → statement M
-difference-spec =
+pub word-differences-spec : {M : Type 1} → statement M
+word-differences-spec =
     tie.close
     (tie.spec
     Inv-loop

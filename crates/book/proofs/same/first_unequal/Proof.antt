@@ -1,0 +1,67 @@
+-- `first_unequal` meets its contract: the bytes passed so far are equal.
+use mathlib.Core.Path.{refl, _∙_}
+use Prim.Native.Nat.{_-_}
+use native.Mathlib.Omega.{arith}
+use lib.ListN.{length}
+use Rattle.automaton.proofs.ByteWords.{part-of-one}
+use Rattle.book.specs.SameBytes.{SameSoFar}
+use Rattle.book.proofs.Equal.{more-read, part-differs, all-read}
+use borrow.Author.Needs.{needs}
+use borrow.Author.Tests.{eq-eqb, ne-eqb}
+use Rattle.book.proofs.same.first_unequal.Statement.{statement}
+use Rattle.book.proofs.same.first_unequal.Tie as tie
+
+abbrev Inv-loop : tie.InvT-loop
+Inv-loop first second from k₀ k = SameSoFar first second k
+
+abbrev μ-loop : tie.MeasureT-loop
+μ-loop first second from k₀ k = length first - k
+
+loop-holds : tie.Need-loop-holds Inv-loop μ-loop
+loop-holds c = c .pre
+
+shared-slice-read-if1 : tie.Need-shared-slice-read-if1 Inv-loop μ-loop
+shared-slice-read-if1 c = search needs
+
+shared-slice-read-if1-2 : tie.Need-shared-slice-read-if1-2 Inv-loop μ-loop
+shared-slice-read-if1-2 c = omega (arith, c .before .before .before .loop .inv .lengths)
+
+returns : tie.Need-returns Inv-loop μ-loop
+returns c =
+    let a = c .before .before .before .before .before .args in
+    let k = c .before .before .before .before .loop .k in
+    ne-eqb k (length (a .first .now)) (λ e. omega (arith, e))
+    ∙ part-differs (a .first .now) (a .second .now) 1 k (λ same. c .if1 .taken (part-of-one (a .first .now) (a .second .now) k k .1 same))
+
+add-k : tie.Need-add-k Inv-loop μ-loop
+add-k c = search needs
+
+loop-less : tie.Need-loop-less Inv-loop μ-loop
+loop-less c = search needs
+
+loop-again : tie.Need-loop-again Inv-loop μ-loop
+loop-again c =
+    let a = c .before .before .before .before .before .args in
+    let l = c .before .before .before .before .loop in
+    more-read (a .first .now) (a .second .now) (l .k) 1 (l .inv) (omega arith) (part-of-one (a .first .now) (a .second .now) (l .k) (l .k) .0 (c .if1 .left))
+
+returns-2 : tie.Need-returns-2 Inv-loop μ-loop
+returns-2 c =
+    let a = c .before .before .args in
+    let l = c .before .loop in
+    eq-eqb (length (a .first .now)) (length (a .first .now)) refl ∙ all-read (a .first .now) (a .second .now) (l .k) (l .inv) (omega arith)
+
+pub first-unequal-spec : {M : Type 1} → statement M
+first-unequal-spec =
+    tie.close
+    (tie.spec
+    Inv-loop
+    μ-loop
+    loop-holds
+    shared-slice-read-if1
+    shared-slice-read-if1-2
+    returns
+    add-k
+    loop-less
+    loop-again
+    returns-2)
