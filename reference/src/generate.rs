@@ -12,6 +12,7 @@ mod random;
 mod shape;
 mod start_damage;
 mod starts;
+mod strings;
 mod variation;
 
 pub use book_damage::{damaged_book, faulty_pair};
@@ -24,10 +25,11 @@ pub use questions::{question, Question};
 pub use random::Random;
 pub use start_damage::damaged_starting_policy;
 pub use starts::{starting_pair, starting_policy};
+pub use strings::{cancelling_strings, equal_strings, one_bit_strings, prefix_strings};
 pub use variation::policy_pair;
 
 /// The names of the kinds that `one` knows.
-pub const KINDS: [&str; 19] = [
+pub const KINDS: [&str; 27] = [
     "policy",
     "policy-pair-first",
     "policy-pair-second",
@@ -47,6 +49,14 @@ pub const KINDS: [&str; 19] = [
     "starting-pair-first",
     "starting-pair-second",
     "late-outcome-book",
+    "equal-strings-first",
+    "equal-strings-second",
+    "one-bit-strings-first",
+    "one-bit-strings-second",
+    "cancelling-strings-first",
+    "cancelling-strings-second",
+    "prefix-strings-first",
+    "prefix-strings-second",
 ];
 
 /// The input of a kind named in `KINDS` for a seed, nothing for another name.
@@ -71,6 +81,14 @@ pub fn one(kind: &str, seed: u64) -> Option<Vec<u8>> {
         "starting-pair-first" => starting_pair(seed).0,
         "starting-pair-second" => starting_pair(seed).1,
         "late-outcome-book" => late_outcome_book(seed),
+        "equal-strings-first" => equal_strings(seed).0,
+        "equal-strings-second" => equal_strings(seed).1,
+        "one-bit-strings-first" => one_bit_strings(seed).0,
+        "one-bit-strings-second" => one_bit_strings(seed).1,
+        "cancelling-strings-first" => cancelling_strings(seed).0,
+        "cancelling-strings-second" => cancelling_strings(seed).1,
+        "prefix-strings-first" => prefix_strings(seed).0,
+        "prefix-strings-second" => prefix_strings(seed).1,
         _ => return None,
     })
 }

@@ -12,6 +12,7 @@ pub mod frame;
 pub mod generate;
 pub mod hex;
 pub mod host;
+pub mod inventory;
 pub mod join;
 pub mod page;
 pub mod play;

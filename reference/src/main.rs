@@ -10,7 +10,7 @@ use reference::compare::{self, Comparison};
 use reference::findings::findings;
 use reference::refusal::Refusal;
 use reference::words::Names;
-use reference::{dot, generate, hex, host, page, play, programs, shelf, way};
+use reference::{dot, generate, hex, host, inventory, page, play, programs, shelf, way};
 
 const HELP: &str = "\
 reference book FILE                  print the book of a policy in hexadecimal
@@ -20,6 +20,7 @@ reference compare FILE FILE          compare two books
 reference verdict FILE               print the findings about a book
 reference page FILE                  print the page of the book of a policy, or of a book
 reference way FILE REQUEST OUTCOME   print the earliest history to an outcome of a request, for a policy or a book
+reference inventory FILE ...         print which of many files are byte for byte equal
 reference build FILE OUT             write the book of a policy into the file OUT
 reference generate KIND SEED OUT     write a generated input into the file OUT
 reference host FILE FILE             print what the sample host prints for two policies
@@ -68,6 +69,7 @@ fn run(arguments: &[&str]) -> Result<String, String> {
             page::page(&book)
         })),
         ["way", file, request, outcome] => print_way(file, request, outcome),
+        ["inventory", names @ ..] if !names.is_empty() => print_inventory(names),
         ["build", file, out] => write_book(file, out),
         ["generate", kind, seed, out] => write_generated(kind, seed, out),
         ["host", first, second] => Ok(host::host(file(first), file(second))),
@@ -121,6 +123,19 @@ fn print_way(file: &str, request: &str, outcome: &str) -> Result<String, String>
     Ok(answer(found, |history| {
         format!("way{}\n", shelf::history_or_none(&history))
     }))
+}
+
+/// Nothing is printed of the others where one of the files cannot be read.
+fn print_inventory(names: &[&str]) -> Result<String, String> {
+    if names.iter().filter(|&&name| name == "-").count() > 1 {
+        return Err("only one of the files can be standard input".into());
+    }
+    let mut files = Vec::new();
+    for &name in names {
+        let bytes = read(name)?;
+        files.push(inventory::File { name, bytes });
+    }
+    Ok(inventory::inventory(&files))
 }
 
 fn write_book(file: &str, out: &str) -> Result<String, String> {

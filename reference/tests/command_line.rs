@@ -169,6 +169,31 @@ fn way_prints_the_earliest_history_or_a_dash() {
 }
 
 #[test]
+fn inventory_prints_which_files_are_equal() {
+    let a = file("inventory-a.bok", &book_bytes(&policy_a()));
+    let c = file("inventory-c.bok", &book_bytes(&policy_c()));
+    let h = file("inventory-h.bok", &book_bytes(&policy_h()));
+    let expected = format!(
+        "3 equal files of 27 bytes:\n  {a}\n  {c}\n  {a}\nunlike every other file:\n  {h}\n  -\n\
+         5 files, 3 different\n"
+    );
+    assert_eq!(
+        text(&run(&["inventory", &a, &h, &c, "-", &a], b"no book")),
+        (expected.as_str(), Some(0))
+    );
+    let one = format!("unlike every other file:\n  {a}\n1 file, 1 different\n");
+    assert_eq!(text(&run(&["inventory", &a], &[])), (one.as_str(), Some(0)));
+    let missing = file("inventory-missing", b"") + ".nowhere";
+    let output = run(&["inventory", &a, &missing, &c], &[]);
+    assert_eq!(text(&output), ("", Some(2)));
+    let message = String::from_utf8(output.stderr).unwrap();
+    assert!(message.starts_with(&format!("cannot read {missing}")));
+    for words in [&["inventory"][..], &["inventory", "-", &a, "-"]] {
+        assert_eq!(text(&run(words, &[])), ("", Some(2)));
+    }
+}
+
+#[test]
 fn build_writes_the_book() {
     let out = file("built.bok", b"");
     assert_eq!(
@@ -224,7 +249,17 @@ fn help_is_an_answer() {
     let (help, status) = text(&output);
     assert_eq!(status, Some(0));
     for command in [
-        "book", "shelf", "compare", "verdict", "page", "way", "build", "generate", "host", "dot",
+        "book",
+        "shelf",
+        "compare",
+        "verdict",
+        "page",
+        "way",
+        "inventory",
+        "build",
+        "generate",
+        "host",
+        "dot",
         "help",
     ] {
         assert!(help.contains(&format!("reference {command}")));

@@ -228,7 +228,7 @@ fn generated_books_pass_the_checks() {
 }
 
 /// For each kind of input, a sum over the bytes for the first 40 seeds.
-const SUMS: [(&str, u64); 19] = [
+const SUMS: [(&str, u64); 27] = [
     ("policy", 0xDA23_5E0E_3629_2C1D),
     ("policy-pair-first", 0x3480_96C1_D3A2_B227),
     ("policy-pair-second", 0xCE55_9955_F26C_296D),
@@ -248,6 +248,14 @@ const SUMS: [(&str, u64); 19] = [
     ("starting-pair-first", 0x61F8_F5D0_3FCF_954D),
     ("starting-pair-second", 0x76AC_0950_CF35_C839),
     ("late-outcome-book", 0xAF1D_028F_5B16_0D76),
+    ("equal-strings-first", 0x9D8C_29C1_29D4_FC4D),
+    ("equal-strings-second", 0x9D8C_29C1_29D4_FC4D),
+    ("one-bit-strings-first", 0x929D_9FA2_9AFB_4804),
+    ("one-bit-strings-second", 0xCC27_10F7_9FE1_074C),
+    ("cancelling-strings-first", 0xB9FE_D980_618A_D5F9),
+    ("cancelling-strings-second", 0x4A4C_587F_5C76_A78F),
+    ("prefix-strings-first", 0x994A_6400_B854_42EA),
+    ("prefix-strings-second", 0xF97C_78F7_1044_9005),
 ];
 
 /// A sum that depends on every byte and on their order (the method called FNV-1a).

@@ -53,20 +53,22 @@ pub(super) fn draw_book(random: &mut Random) -> Book {
             let (frame, states) = (draw_frame(random), random.between(1, MOST_STATES));
             random_rows(frame, states, random)
         }
-        4 => random_rows(
-            Frame {
-                events: 8,
-                counts: vec![4, 16],
-            },
-            MOST_STATES,
-            random,
-        ),
+        4 => fullest_book(random),
         5 => built_book(random),
         _ => {
             let built = built_book(random);
             disguise(&built, random)
         }
     }
+}
+
+/// 127 states and 136 codes: 17,284 bytes.
+pub(super) fn fullest_book(random: &mut Random) -> Book {
+    let frame = Frame {
+        events: 8,
+        counts: vec![4, 16],
+    };
+    random_rows(frame, MOST_STATES, random)
 }
 
 /// Few states and few codes.
