@@ -1,5 +1,6 @@
 //! The reference's answers, packed into the number that the C interface gives.
 
+use reference::compare::equal_bytes;
 use reference::entry::{self, Compared, RequestVerdict};
 use reference::refusal::Refusal;
 
@@ -47,4 +48,9 @@ pub fn page(book: &[u8], page: &mut [u8]) -> u64 {
 
 pub fn way(book: &[u8], request: usize, outcome: usize, buffer: &mut [u8]) -> u64 {
     packed(entry::way(book, request, outcome, buffer), history)
+}
+
+/// Nothing is refused, so nothing is packed: 1 for equal bytes, else 0.
+pub fn same_bytes(first: &[u8], second: &[u8]) -> u64 {
+    u64::from(equal_bytes(first, second))
 }

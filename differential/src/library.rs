@@ -41,6 +41,12 @@ mod foreign {
             history: *mut u8,
             history_len: usize,
         ) -> u64;
+        pub fn policybook_same_bytes(
+            first: *const u8,
+            first_len: usize,
+            second: *const u8,
+            second_len: usize,
+        ) -> u64;
     }
 }
 
@@ -102,5 +108,13 @@ pub fn way(book: &[u8], request: usize, outcome: usize, history: &mut [u8]) -> u
             history.as_mut_ptr(),
             history.len(),
         )
+    }
+}
+
+/// The answer of same_bytes on two byte strings, which may overlap.
+pub fn same_bytes(first: &[u8], second: &[u8]) -> u64 {
+    // SAFETY: each pointer is valid for its length, and nothing is written.
+    unsafe {
+        foreign::policybook_same_bytes(first.as_ptr(), first.len(), second.as_ptr(), second.len())
     }
 }

@@ -7,12 +7,14 @@
 
 mod expected;
 mod library;
+mod same;
 mod ways;
 
 use std::collections::BTreeMap;
 use std::process::ExitCode;
 
 use reference::generate::{self, Random};
+use same::sames;
 use ways::Ways;
 
 /// How one call was answered over all its inputs.
@@ -28,10 +30,15 @@ struct Tally {
 impl Tally {
     /// Notes one input: what the library gave, what it should have given, and a name for the input.
     fn note<T: PartialEq>(&mut self, given: (u64, T), wanted: (u64, T), input: &str) {
-        self.inputs += 1;
         *self.refusals.entry(wanted.0 % 256).or_default() += 1;
         self.greatest = self.greatest.max(wanted.0 / 256);
-        if given.0 != wanted.0 || given.1 != wanted.1 {
+        self.hold(given, wanted, input);
+    }
+
+    /// The same for an answer that is the value itself, with no room for a refusal.
+    fn hold<T: PartialEq>(&mut self, given: (u64, T), wanted: (u64, T), input: &str) {
+        self.inputs += 1;
+        if given != wanted {
             if self.differences == 0 {
                 let buffers = if given.1 == wanted.1 {
                     "equal"
@@ -53,12 +60,14 @@ impl Tally {
             .iter()
             .map(|(number, times)| format!("{number}: {times}"))
             .collect();
-        println!(
-            "{call}: {} inputs, {} differences; refusals {}",
-            self.inputs,
-            self.differences,
-            refusals.join(", ")
+        print!(
+            "{call}: {} inputs, {} differences",
+            self.inputs, self.differences
         );
+        match refusals.is_empty() {
+            true => println!(),
+            false => println!("; refusals {}", refusals.join(", ")),
+        }
     }
 }
 
@@ -257,15 +266,25 @@ fn main() -> ExitCode {
         return ExitCode::from(2);
     };
     println!("seeds {seed} to {}", seed + count - 1);
+    match all_equal(count, seed) {
+        true => ExitCode::SUCCESS,
+        false => ExitCode::FAILURE,
+    }
+}
+
+/// Makes all calls and prints how they came out: whether there is no difference.
+fn all_equal(count: u64, seed: u64) -> bool {
     let builds = builds(count, seed);
     let of_books = of_books(count, seed);
     let compare = compares(count, seed);
+    let sames = sames(count, seed);
     let tallies = [
         ("build", &builds.build),
         ("verdict", &of_books.verdict),
         ("compare", &compare),
         ("page", &of_books.page),
         ("way", &of_books.ways.way),
+        ("same_bytes", &sames.same),
     ];
     for (call, tally) in &tallies {
         tally.print(call);
@@ -280,8 +299,6 @@ fn main() -> ExitCode {
         of_books.page.greatest, of_books.fullest, of_books.unreached
     );
     of_books.ways.print();
-    match tallies.iter().all(|(_, tally)| tally.differences == 0) {
-        true => ExitCode::SUCCESS,
-        false => ExitCode::FAILURE,
-    }
+    sames.print();
+    tallies.iter().all(|(_, tally)| tally.differences == 0)
 }
