@@ -6,16 +6,16 @@
 #include <stdlib.h>
 #include <string.h>
 
-/* Not null for size 0 either. */
-static uint8_t *allocate(size_t size)
+/* What an allocation gave, if it gave anything. */
+static void *given(void *data)
 {
-    uint8_t *data = malloc(size > 0 ? size : 1);
-    if (data == NULL) {
-        fprintf(stderr, "out of memory\n");
-        exit(2);
-    }
-    return data;
+    if (data != NULL) return data;
+    fprintf(stderr, "out of memory\n");
+    exit(2);
 }
+
+/* Not null for size 0 either. */
+static uint8_t *allocate(size_t size) { return given(malloc(size > 0 ? size : 1)); }
 
 struct bytes exact_copy(const uint8_t *data, size_t length)
 {
@@ -31,6 +31,8 @@ uint8_t *lent_buffer(size_t size, int byte)
     return data;
 }
 
+void *room_for(size_t count, size_t size) { return given(calloc(count > 0 ? count : 1, size > 0 ? size : 1)); }
+
 static int cannot_be_read(const char *name, int error)
 {
     fflush(stdout);
@@ -38,17 +40,33 @@ static int cannot_be_read(const char *name, int error)
     return 0;
 }
 
+/* More than a book, so that one read is enough for it. */
+#define FIRST_ROOM 20000
+
+/* Reads to the end or up to `most` bytes, into room that is doubled where a file fills it. The error's number, 0 for none; free(data) in either case. */
+static int read_all(FILE *file, size_t most, struct bytes *read)
+{
+    size_t room = FIRST_ROOM < most ? FIRST_ROOM : most;
+    *read = (struct bytes){ allocate(room), 0 };
+    for (;;) {
+        errno = EIO; /* should fread fail without saying why */
+        read->length += fread(read->data + read->length, 1, room - read->length, file);
+        if (ferror(file)) return errno;
+        if (read->length < room || room == most) return 0;
+        room = room < most / 2 ? 2 * room : most;
+        read->data = given(realloc(read->data, room));
+    }
+}
+
 int read_file(const char *name, size_t most, struct bytes *bytes)
 {
+    struct bytes read;
     FILE *file = fopen(name, "rb");
     if (file == NULL) return cannot_be_read(name, errno);
-    uint8_t *data = allocate(most);
-    errno = EIO; /* should fread fail without saying why */
-    size_t length = fread(data, 1, most, file);
-    int error = ferror(file) ? errno : 0;
+    int error = read_all(file, most, &read);
     fclose(file);
-    if (error == 0) *bytes = exact_copy(data, length);
-    free(data);
+    if (error == 0) *bytes = exact_copy(read.data, read.length);
+    free(read.data);
     return error == 0 ? 1 : cannot_be_read(name, error);
 }
 

@@ -11,7 +11,9 @@ struct bytes {
     size_t length;
 };
 
-/* Reads a file, of a longer one the first `most` bytes. 0 and a line on standard error if it cannot be read. free(data) after use. */
+/* Reads a file, of a longer one the first `most` bytes; with WHOLE all of it. 0 and a line on standard error if it cannot be read. free(data) after
+ * use. Ends the program if there is no memory. */
+#define WHOLE SIZE_MAX
 int read_file(const char *name, size_t most, struct bytes *bytes);
 
 /* A copy of some bytes, with no byte to spare. Ends the program if there is no memory. */
@@ -19,6 +21,9 @@ struct bytes exact_copy(const uint8_t *data, size_t length);
 
 /* A buffer of this size, every byte the same. Ends the program if there is no memory. */
 uint8_t *lent_buffer(size_t size, int byte);
+
+/* Room for `count` things of `size` bytes, every byte 0. Ends the program if there is no memory. */
+void *room_for(size_t count, size_t size);
 
 /* Reads a number in decimal digits; one above SIZE_MAX is read as SIZE_MAX, which every call refuses like it. 0 if there is anything else. */
 int read_number(const char *text, size_t *number);

@@ -1,5 +1,6 @@
 /*
- * policybook.h: building, judging and comparing policy books, writing their pages and finding ways in them, for C99 and later and for C++.
+ * policybook.h: building, judging and comparing policy books, writing their pages, finding ways in them and telling equal bytes, for C99 and
+ * later and for C++.
  *
  * A policy file holds access rules. Its book is a table that says, after every history of events and decided requests, which steps are
  * possible next. A step is one byte, its code; a history is a list of codes. docs/FORMATS.md describes policies, books and codes byte by byte.
@@ -11,19 +12,21 @@
  *     else
  *         book_length = (size_t)policybook_value_of(answer);   // the book is the first book_length bytes of the buffer
  *
- * The five functions are proved: for every input they end, read and write only what is lent to them, and answer as docs/C-INTERFACE.md says.
+ * The six functions are proved: for every input they end, read and write only what is lent to them, and answer as docs/C-INTERFACE.md says.
  * They keep no state, allocate nothing, set no errno, and may be called from several threads at once. The inline functions below are plain C.
  *
  * An answer is one number. Modulo 256 it is the number of a refusal, 0 where nothing is refused; divided by 256 it is the value.
+ * (policybook_same_bytes alone refuses nothing: it answers 1 or 0, which is not to be taken apart.)
  * A call that is refused leaves every buffer as it was. What a call does not say it writes, stays.
  *
  * The caller sees to it that
  *   - each pointer is valid for its length, and none is null, also where the length is 0;
- *   - a buffer that is written overlaps with no other argument (two books that are only read may be the same);
- *   - about 128 kB of stack are free.
+ *   - a buffer that is written overlaps with no other argument (what is only read may overlap or be the same);
+ *   - about 128 kB of stack are free (for policybook_same_bytes next to nothing).
  * Nothing else is asked: any bytes may be given as a policy or as a book, and any length, request and outcome.
  *
- * Link with target/staticlib/libpolicybook.a, which `rt staticlib policybook` writes. Examples: host/sample.c, host/page.c, host/way.c, host/answers.c.
+ * Link with target/staticlib/libpolicybook.a, which `rt staticlib policybook` writes. Examples: host/sample.c, host/page.c,
+ * host/way.c, host/inventory.c, host/answers.c.
  */
 #ifndef POLICYBOOK_H
 #define POLICYBOOK_H
@@ -50,7 +53,7 @@ extern "C" {
  */
 enum policybook_refusal {
     POLICYBOOK_OK = 0,                /* nothing was refused */
-    POLICYBOOK_SHORT_BUFFER = 1,      /* a lent buffer is too short (every function) */
+    POLICYBOOK_SHORT_BUFFER = 1,      /* a lent buffer is too short (every function that is lent one) */
     POLICYBOOK_SHORT_POLICY = 2,      /* the policy has under 9 bytes (2 to 11 and 17: build) */
     POLICYBOOK_POLICY_MARK = 3,       /* its mark is not POL */
     POLICYBOOK_POLICY_VERSION = 4,    /* its version is neither 1 nor 2 */
@@ -62,7 +65,7 @@ enum policybook_refusal {
     POLICYBOOK_RULE_VALUE = 9,        /* a decision, test or change is outside its values */
     POLICYBOOK_VALUATIONS = 10,       /* there are over 64 valuations of the variables */
     POLICYBOOK_SITUATIONS = 11,       /* over 127 situations are reached */
-    POLICYBOOK_BOOK_HEADER = 12,      /* the book has under 12 bytes, or another mark or version (12 to 14: all but build) */
+    POLICYBOOK_BOOK_HEADER = 12,      /* the book has under 12 bytes, or another mark or version (12 to 14: verdict, compare, page, way) */
     POLICYBOOK_BOOK_LAYOUT = 13,      /* a number of its header is outside its range, or its length does not follow from them */
     POLICYBOOK_BOOK_ENTRY = 14,       /* an entry is above the number of states, or 0 for an event */
     POLICYBOOK_FRAMES = 15,           /* the two books differ in their events or value counts (compare) */
@@ -128,7 +131,17 @@ uint64_t policybook_page(const uint8_t *book, size_t book_len, uint8_t *page, si
  */
 uint64_t policybook_way(const uint8_t *book, size_t book_len, size_t request, size_t outcome, uint8_t *history, size_t history_len);
 
-/* ---- Taking an answer apart ---- */
+/*
+ * Whether two byte strings are equal: 1 if they have the same length and the same bytes, else 0. Any bytes will do, books or not, of any length.
+ * The answer is NOT packed: nothing is ever refused, and policybook_refusal_of, which would take "equal" for a refusal, is not for it, nor is
+ * policybook_value_of. Two books that were built have equal bytes exactly when their frames (events and value counts) are equal and the same
+ * histories are possible in both; of books from elsewhere policybook_compare tells the latter.
+ *
+ *     if (policybook_same_bytes(first, first_length, second, second_length) == 1) printf("one book, found twice\n");
+ */
+uint64_t policybook_same_bytes(const uint8_t *first, size_t first_len, const uint8_t *second, size_t second_len);
+
+/* ---- Taking an answer apart (of every function but policybook_same_bytes) ---- */
 
 /* The refusal's number, or POLICYBOOK_OK. */
 static inline unsigned policybook_refusal_of(uint64_t answer) { return (unsigned)(answer % 256); }
