@@ -129,6 +129,21 @@ static void check_page(uint64_t input, const struct bytes *book)
     same(x == y && memcmp(one, two, sizeof one) == 0, "page", input);
 }
 
+/* The two books, and two short strings at any place in memory: equal, or with another byte or length. */
+static void check_same_bytes(uint64_t input, const struct bytes *first, const struct bytes *second)
+{
+    uint8_t one[16 + 256], other[16 + 256];
+    unsigned length = below(below(2) ? 256 : 25), other_length = below(4) ? length : below(256);
+    uint8_t *a = one + below(16), *b = other + below(16);
+    for (unsigned i = 0; i < 256; i++)
+        a[i] = b[i] = (uint8_t)below(256);
+    if (below(2))
+        b[below(length + 1)] ^= (uint8_t)(1 << below(8));
+    same(policybook_same_bytes(a, length, b, other_length) == plain_same_bytes(a, length, b, other_length), "equal bytes of strings", input);
+    uint64_t x = policybook_same_bytes(first->at, first->length, second->at, second->length);
+    same(x == plain_same_bytes(first->at, first->length, second->at, second->length), "equal bytes of books", input);
+}
+
 int main(int argc, char **argv)
 {
     static struct bytes first, second;
@@ -148,6 +163,7 @@ int main(int argc, char **argv)
         check_page(i, &second);
         check_way(i, &second);
         check_compare(i, &first, &second);
+        check_same_bytes(i, &first, &second);
     }
     printf("plain C answers as the library on %lu inputs of each call; %lu of the policies have a book, of up to %lu states\n", count, built, longest);
     return 0;

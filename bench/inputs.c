@@ -1,6 +1,8 @@
 /* inputs.c: the policies and books that are measured. */
 #include "inputs.h"
 
+#include <stdio.h>
+#include <stdlib.h>
 #include <string.h>
 
 static void put(struct bytes *out, const uint8_t *bytes, size_t length)
@@ -77,6 +79,13 @@ void late_difference(const struct bytes *book, struct bytes *other)
     *other = *book;
     uint8_t *last = &other->at[other->length - 1];
     *last = *last == 0;
+}
+
+void early_difference(const struct bytes *book, struct bytes *other)
+{
+    *other = *book;
+    uint8_t *rejected = &other->at[12 + other->at[5] + 1];
+    *rejected = *rejected == 0;
 }
 
 /* States 2 to n in the opposite order; 0 and 1 stay. */
@@ -189,4 +198,30 @@ void half_reached(struct bytes *book)
     accept_all(book, STATES);
     for (unsigned s = 1; s <= STATES; s++)
         *entry(book, s, TELLER) = (uint8_t)(s + 2 <= STATES ? s + 2 : 0);
+}
+
+void equal_pairs(const struct bytes *book, size_t length, size_t count, struct pairs *pairs)
+{
+    size_t stride = length / 16 * 16 + 16;
+    free(pairs->room);
+    pairs->room = malloc(2 * count * stride);
+    pairs->count = pairs->equal = count;
+    if (pairs->room == NULL) {
+        fprintf(stderr, "no memory\n");
+        exit(1);
+    }
+    for (size_t i = 0; i < count; i++) {
+        uint8_t *first = pairs->room + 2 * i * stride, *second = first + stride;
+        memcpy(first, book->at, length);
+        memcpy(second, book->at, length);
+        pairs->at[i] = (struct pair){ first, length, second, length };
+    }
+}
+
+void same_pair(const struct bytes *first, const struct bytes *second, size_t count, struct pairs *pairs)
+{
+    pairs->count = count;
+    pairs->equal = 0;
+    for (size_t i = 0; i < count; i++)
+        pairs->at[i] = (struct pair){ first->at, first->length, second->at, second->length };
 }

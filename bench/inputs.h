@@ -30,6 +30,9 @@ void many_states(struct bytes *policy, unsigned top, unsigned events, unsigned h
 /* The same book but for one entry, which stands as late as possible in the search. */
 void late_difference(const struct bytes *book, struct bytes *other);
 
+/* The same book but for one entry of state 1: whether request 0 may be rejected. */
+void early_difference(const struct bytes *book, struct bytes *other);
+
 /* The same book with other numbers for the states but 1. */
 void renumbered(const struct bytes *book, struct bytes *other);
 
@@ -56,5 +59,25 @@ void chain(struct bytes *book);
 
 /* A book of 127 states and 136 codes in which a history leads to every second state only. */
 void half_reached(struct bytes *book);
+
+enum { SHORT_PAIRS = 100, SHELF_PAIRS = 1000 };
+
+/* Pairs of byte strings to be tested one after another, and how many of them are equal. */
+struct pairs {
+    size_t count, equal;
+    uint8_t *room;
+    struct pair {
+        const uint8_t *first;
+        size_t first_length;
+        const uint8_t *second;
+        size_t second_length;
+    } at[SHELF_PAIRS];
+};
+
+/* Pairs of equal strings, the first `length` bytes of a book each; every string is a copy at a place of its own, a multiple of 16 as for allocated memory. */
+void equal_pairs(const struct bytes *book, size_t length, size_t count, struct pairs *pairs);
+
+/* One pair of different books, again and again. */
+void same_pair(const struct bytes *first, const struct bytes *second, size_t count, struct pairs *pairs);
 
 #endif

@@ -9,9 +9,6 @@
 #include <stdlib.h>
 #include <string.h>
 
-/* The library's test for equal bytes, as bench/run makes it available to C. */
-bool equal_bytes(const uint8_t *first, size_t first_len, const uint8_t *second, size_t second_len);
-
 static void library_build(void *at)
 {
     struct job *j = at;
@@ -89,19 +86,47 @@ static void plainly_way(void *at)
 static void library_equal_bytes(void *at)
 {
     struct job *j = at;
-    j->written.answer = equal_bytes(j->first.at, j->first.length, j->second.at, j->second.length);
+    j->written.answer = policybook_same_bytes(j->first.at, j->first.length, j->second.at, j->second.length);
 }
 
 static void plainly_equal_bytes(void *at)
 {
     struct job *j = at;
-    j->written.answer = (uint64_t)plain_same_bytes(j->first.at, j->first.length, j->second.at, j->second.length);
+    j->written.answer = plain_same_bytes(j->first.at, j->first.length, j->second.at, j->second.length);
 }
 
 static void openfst_equal_bytes(void *at)
 {
     struct job *j = at;
     j->written.answer = (uint64_t)openfst_equal(j->first_automaton, j->second_automaton);
+}
+
+typedef uint64_t equality(const uint8_t *first, size_t first_len, const uint8_t *second, size_t second_len);
+
+/*
+ * How many of the pairs are equal. A test of short strings takes a few nanoseconds; with many in one run, the call through the runner's pointer and the
+ * store of the answer count for little. The arguments of each test are read from memory, so that none is lifted out of the loop or done without looking at
+ * the lengths. The loop is inlined for each implementation, as it would be in a program that uses one of them.
+ */
+static inline uint64_t count_equal(const struct pairs *pairs, equality *are_equal)
+{
+    const struct pair *end = pairs->at + pairs->count;
+    uint64_t equal = 0;
+    for (const struct pair *p = pairs->at; p < end; p++)
+        equal += are_equal(p->first, p->first_length, p->second, p->second_length);
+    return equal;
+}
+
+static void library_pairs(void *at)
+{
+    struct job *j = at;
+    j->written.answer = count_equal(&j->pairs, policybook_same_bytes);
+}
+
+static void plainly_pairs(void *at)
+{
+    struct job *j = at;
+    j->written.answer = count_equal(&j->pairs, plain_same_bytes);
 }
 
 static void demand(bool holds, const char *job)
@@ -189,4 +214,10 @@ void measure_equal_bytes(struct job *j, struct result *result)
     make_automata(j);
     demand(by_openfst(j, openfst_equal_bytes) == answer, "equal bytes and OpenFst");
     measure(j, library_equal_bytes, plainly_equal_bytes, openfst_equal_bytes, result);
+}
+
+void measure_pairs(struct job *j, struct result *result)
+{
+    demand(agreed(j, library_pairs, plainly_pairs, "equal bytes of pairs") == j->pairs.equal, "equal bytes and the pairs made");
+    measure(j, library_pairs, plainly_pairs, NULL, result);
 }

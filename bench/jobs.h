@@ -12,6 +12,7 @@ enum { LIBRARY, PLAIN, OPENFST, IMPLEMENTATIONS };
 struct job {
     struct bytes policy, first, second;
     size_t request, outcome;
+    struct pairs pairs;
     struct automaton *policy_automaton, *first_automaton, *second_automaton;
     struct written {
         uint8_t book[BOOK_ROOM], conflict[128], missing[128], blocked[128], history[256], page[PAGE_ROOM];
@@ -31,5 +32,6 @@ void measure_compare(struct job *job, struct result *result);
 void measure_page(struct job *job, struct result *result);
 void measure_way(struct job *job, struct result *result);
 void measure_equal_bytes(struct job *job, struct result *result);
+void measure_pairs(struct job *job, struct result *result);
 
 #endif

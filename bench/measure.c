@@ -95,6 +95,24 @@ static void book_rows(const char *input, struct job *j)
     row("equal bytes, equal", input, measure_equal_bytes, j);
     late_difference(&j->first, &j->second);
     row("equal bytes, last differs", input, measure_equal_bytes, j);
+    early_difference(&j->first, &j->second);
+    same_pair(&j->first, &j->second, SHORT_PAIRS, &j->pairs);
+    row("equal bytes, entry of state 1 differs, 100 times", input, measure_pairs, j);
+    equal_pairs(&j->first, j->first.length, SHELF_PAIRS, &j->pairs);
+    row("equal bytes, 1,000 equal pairs", "shelf of 2,000 books 127 × 136", measure_pairs, j);
+}
+
+/* Equal strings: none, a frame's bytes, whole words, and a tail that is as long as it can be. */
+static void string_rows(struct job *j)
+{
+    static const size_t lengths[] = { 0, 6, 7, 8, 15, 16, 23, 24 };
+    char input[40];
+    late_findings(&j->first);
+    for (size_t i = 0; i < sizeof lengths / sizeof *lengths; i++) {
+        snprintf(input, sizeof input, "strings of %zu bytes", lengths[i]);
+        equal_pairs(&j->first, lengths[i], SHORT_PAIRS, &j->pairs);
+        row("equal bytes, 100 equal pairs", input, measure_pairs, j);
+    }
 }
 
 /* The narrowest book with the most states, in which writing the history is the greatest part of a way. */
@@ -118,6 +136,7 @@ static void print_jobs(struct job *j)
     many_states(&j->policy, 63, 8, 16, 4, 5);
     policy_rows("127 states, 136 codes", j);
     book_rows("books 127 × 136", j);
+    string_rows(j);
     chain_rows("chain of 127 states, 2 codes", j);
 }
 

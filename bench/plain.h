@@ -1,5 +1,6 @@
 /*
- * plain.h: build, verdict, compare, page and way once more, in plain C, as a yardstick for the measurements. Arguments and answers are those of host/policybook.h.
+ * plain.h: build, verdict, compare, page, way and equal bytes once more, in plain C, as a yardstick for the measurements. Arguments and answers are those of
+ * host/policybook.h.
  */
 #ifndef PLAIN_H
 #define PLAIN_H
@@ -19,7 +20,6 @@ uint64_t plain_page(const uint8_t *book, size_t book_len, uint8_t *page, size_t 
 
 uint64_t plain_way(const uint8_t *book, size_t book_len, size_t request, size_t outcome, uint8_t *history, size_t history_len);
 
-/* Whether two byte strings are equal. */
-int plain_same_bytes(const uint8_t *first, size_t first_len, const uint8_t *second, size_t second_len);
+uint64_t plain_same_bytes(const uint8_t *first, size_t first_len, const uint8_t *second, size_t second_len);
 
 #endif

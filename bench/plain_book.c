@@ -1,4 +1,4 @@
-/* plain_book.c: verdict, compare, page and way. Breadth-first search over the states of a book, and over the pairs of states of two. */
+/* plain_book.c: verdict, compare, page, way and equal bytes. Breadth-first search over the states of a book, and over the pairs of states of two. */
 #include "plain.h"
 #include "plain_policy.h"
 
@@ -302,7 +302,7 @@ uint64_t plain_way(const uint8_t *book, size_t book_len, size_t request, size_t 
     return 256 * (uint64_t)search_outcome(&b, (unsigned)request, (unsigned)outcome, history);
 }
 
-int plain_same_bytes(const uint8_t *first, size_t first_len, const uint8_t *second, size_t second_len)
+uint64_t plain_same_bytes(const uint8_t *first, size_t first_len, const uint8_t *second, size_t second_len)
 {
     return first_len == second_len && memcmp(first, second, first_len) == 0;
 }
