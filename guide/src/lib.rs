@@ -1,10 +1,11 @@
 //! The guide. For rule writers and trainers: nine errors, each with a policy, its
 //! book, the book that the error gives, and the earliest history that shows it.
-//! For the file room: how to read the page of a book. For trainers: exercises
-//! with their answers.
+//! For the file room: how to read the page of a book, and the yearly inventory.
+//! For trainers: exercises with their answers.
 
 pub mod exercises;
 pub mod files;
+pub mod inventory;
 pub mod lessons;
 pub mod mistakes;
 pub mod pages;

@@ -10,7 +10,8 @@ use std::process::ExitCode;
 use std::{env, fs};
 
 use guide::exercises::{exercise_answers, exercise_files, exercises};
-use guide::files::{answers, files_of};
+use guide::files::{answers, files_of, File};
+use guide::inventory::{inventory_answers, inventory_files};
 use guide::lessons::lessons;
 use guide::pages::{examples, Example};
 use guide::text::filled;
@@ -34,20 +35,26 @@ fn write_all(template: &str, folder: &Path) -> Result<(), String> {
     let (lessons, examples, exercises) = (lessons(), examples(), exercises());
     let template =
         fs::read_to_string(template).map_err(|error| format!("cannot read {template}: {error}"))?;
+    let files: Vec<File> = lessons
+        .iter()
+        .flat_map(files_of)
+        .chain(examples.iter().flat_map(Example::files))
+        .chain(exercise_files())
+        .chain(inventory_files())
+        .collect();
     let inner = folder.join("guide");
     fs::create_dir_all(&inner)
         .map_err(|error| format!("cannot make {}: {error}", inner.display()))?;
     write(
         &folder.join("GUIDE.md"),
-        filled(&template, &lessons, &examples, &exercises)?.as_bytes(),
+        filled(&template, &lessons, &examples, &exercises, &files)?.as_bytes(),
     )?;
     let of_pages: String = examples.iter().map(Example::answers).collect();
-    let answers = answers(&lessons) + &of_pages + &exercise_answers(&exercises);
+    let of_exercises = exercise_answers(&exercises);
+    let answers = answers(&lessons) + &of_pages + &of_exercises + &inventory_answers();
     write(&inner.join("answers.txt"), answers.as_bytes())?;
-    let of_lessons = lessons.iter().flat_map(files_of);
-    let of_examples = examples.iter().flat_map(Example::files);
-    for (name, bytes) in of_lessons.chain(of_examples).chain(exercise_files()) {
-        write(&inner.join(name), &bytes)?;
+    for (name, bytes) in &files {
+        write(&inner.join(name), bytes)?;
     }
     Ok(())
 }

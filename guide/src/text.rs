@@ -1,18 +1,19 @@
 //! Filling the guide's text: a line `{{what lesson}}`, or with an example of the
-//! file room's or an exercise for the lesson, stands for what is computed.
+//! file room's, an exercise or files for the lesson, stands for what is computed.
 
 use reference::findings::{findings, RequestFinding};
 use reference::page::page;
 use reference::words::Names;
 
 use crate::exercises::{of_exercise, Exercise};
-use crate::files::{book_of, earliest, mistaken_book};
+use crate::files::{book_of, earliest, mistaken_book, File};
+use crate::inventory::of_inventory;
 use crate::lessons::{Lesson, Mistaken};
 use crate::pages::Example;
 use crate::rules::Table;
 
 const NOTE: &str =
-    "<!-- Made by guide/make from guide/guide.md and the policies of guide/src/lessons.rs, guide/src/pages.rs and guide/src/exercises.rs. -->\n";
+    "<!-- Made by guide/make from guide/guide.md and the policies of guide/src/lessons.rs, guide/src/pages.rs, guide/src/exercises.rs and guide/src/inventory.rs. -->\n";
 
 /// The guide's text with every place filled, or which line asks for nothing known.
 pub fn filled(
@@ -20,6 +21,7 @@ pub fn filled(
     lessons: &[Lesson],
     examples: &[Example],
     exercises: &[Exercise],
+    files: &[File],
 ) -> Result<String, String> {
     let mut text = NOTE.to_string();
     for line in template.lines() {
@@ -32,6 +34,7 @@ pub fn filled(
                 let part = part(place, lessons)
                     .or_else(|| of_example(place, examples))
                     .or_else(|| of_exercise(place, exercises))
+                    .or_else(|| of_inventory(place, files))
                     .ok_or(format!("nothing is known of: {line}"))?;
                 text.push_str(part.trim_end_matches('\n'));
             }
