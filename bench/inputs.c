@@ -1,4 +1,4 @@
-/* inputs.c: the policies and books that are measured. */
+/* inputs.c: the policies, books and byte strings that are measured. */
 #include "inputs.h"
 
 #include <stdio.h>
@@ -200,22 +200,38 @@ void half_reached(struct bytes *book)
         *entry(book, s, TELLER) = (uint8_t)(s + 2 <= STATES ? s + 2 : 0);
 }
 
-void equal_pairs(const struct bytes *book, size_t length, size_t count, struct pairs *pairs)
+/* Room of this size or a little more, at a multiple of 64, for so many equal pairs. */
+static void take_room(size_t size, size_t count, struct pairs *pairs)
 {
-    size_t stride = length / 16 * 16 + 16;
     free(pairs->room);
-    pairs->room = malloc(2 * count * stride);
+    pairs->room = aligned_alloc(64, size / 64 * 64 + 64);
     pairs->count = pairs->equal = count;
     if (pairs->room == NULL) {
         fprintf(stderr, "no memory\n");
         exit(1);
     }
-    for (size_t i = 0; i < count; i++) {
-        uint8_t *first = pairs->room + 2 * i * stride, *second = first + stride;
-        memcpy(first, book->at, length);
-        memcpy(second, book->at, length);
-        pairs->at[i] = (struct pair){ first, length, second, length };
-    }
+}
+
+static struct pair equal_pair(const struct bytes *book, size_t length, uint8_t *first, uint8_t *second)
+{
+    memcpy(first, book->at, length);
+    memcpy(second, book->at, length);
+    return (struct pair){ first, length, second, length };
+}
+
+void equal_pairs(const struct bytes *book, size_t length, size_t count, struct pairs *pairs)
+{
+    size_t stride = length / 16 * 16 + 16;
+    take_room(2 * count * stride, count, pairs);
+    for (size_t i = 0; i < count; i++)
+        pairs->at[i] = equal_pair(book, length, pairs->room + 2 * i * stride, pairs->room + (2 * i + 1) * stride);
+}
+
+void pair_at(const struct bytes *book, size_t first, size_t second, struct pairs *pairs)
+{
+    size_t stride = (book->length + 64) / 64 * 64 + 64;
+    take_room(2 * stride, 1, pairs);
+    pairs->at[0] = equal_pair(book, book->length, pairs->room + first, pairs->room + stride + second);
 }
 
 void same_pair(const struct bytes *first, const struct bytes *second, size_t count, struct pairs *pairs)

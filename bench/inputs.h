@@ -1,4 +1,4 @@
-/* inputs.h: the policies and books that are measured. */
+/* inputs.h: the policies, books and byte strings that are measured. */
 #ifndef INPUTS_H
 #define INPUTS_H
 
@@ -7,9 +7,10 @@
 
 enum { BOOK_ROOM = 17284, PAGE_ROOM = 9271 };
 
+/* At a multiple of 16, as memory that is allocated. */
 struct bytes {
+    _Alignas(16) uint8_t at[BOOK_ROOM];
     size_t length;
-    uint8_t at[BOOK_ROOM];
 };
 
 /* Case S of the contract: 64 situations, one state, 4 codes. */
@@ -76,6 +77,9 @@ struct pairs {
 
 /* Pairs of equal strings, the first `length` bytes of a book each; every string is a copy at a place of its own, a multiple of 16 as for allocated memory. */
 void equal_pairs(const struct bytes *book, size_t length, size_t count, struct pairs *pairs);
+
+/* One pair: a book twice, so many bytes behind multiples of 64. */
+void pair_at(const struct bytes *book, size_t first, size_t second, struct pairs *pairs);
 
 /* One pair of different books, again and again. */
 void same_pair(const struct bytes *first, const struct bytes *second, size_t count, struct pairs *pairs);

@@ -1,4 +1,4 @@
-/* measure.c: the tables of docs/MEASUREMENTS.md, in Markdown. Usage: measure jobs, or measure growth */
+/* measure.c: the tables of docs/MEASUREMENTS.md, in Markdown. Usage: measure jobs, measure places or measure growth */
 #include "jobs.h"
 #include "policybook.h"
 
@@ -140,6 +140,24 @@ static void print_jobs(struct job *j)
     chain_rows("chain of 127 states, 2 codes", j);
 }
 
+/* Two equal books at several places in memory. */
+static void print_places(struct job *j)
+{
+    static const unsigned places[][2] = { { 0, 16 }, { 16, 32 }, { 0, 0 }, { 0, 32 }, { 8, 24 }, { 8, 8 }, { 0, 8 }, { 1, 17 }, { 1, 1 }, { 0, 1 } };
+    late_findings(&j->first);
+    printf("| first book | second book | library, µs | plain C, µs | library / plain C |\n|---:|---:|---:|---:|---:|\n");
+    for (size_t i = 0; i < sizeof places / sizeof *places; i++) {
+        struct result r;
+        pair_at(&j->first, places[i][0], places[i][1], &j->pairs);
+        measure_pairs(j, &r);
+        printf("| at %u | at %u |", places[i][0], places[i][1]);
+        print_time(r.nanoseconds[LIBRARY]);
+        print_time(r.nanoseconds[PLAIN]);
+        print_ratio(1 / r.ratio[PLAIN]);
+        printf("\n");
+    }
+}
+
 /* A job measured: the library's time, and its ratio to plain C's. */
 static void growth_cells(measurement *measure, struct job *j)
 {
@@ -193,6 +211,8 @@ int main(int argc, char **argv)
     static struct job j;
     if (argc == 2 && strcmp(argv[1], "jobs") == 0)
         print_jobs(&j);
+    else if (argc == 2 && strcmp(argv[1], "places") == 0)
+        print_places(&j);
     else if (argc == 2 && strcmp(argv[1], "growth") == 0)
         print_growth(&j);
     else
