@@ -1,3 +1,3 @@
-pub mod Equal
 pub mod Places
+pub mod SameBytes
 pub mod Tellings

@@ -1,5 +1,5 @@
--- The owner's demands 2 and 3, the states of the book of a policy, the start, row 11 and the levels, and what verdict, compare, the page and the way owe
--- for any book. No theorem here has a hypothesis beyond this: the policies are accepted, or for row 11 and for the starts the rows before row 11 let the files pass, or the books pass
+-- The owner's demands 2 and 3, the states of the book of a policy, the start, row 11 and the levels, what verdict, compare, the page and the way owe
+-- for any book, and equal bytes. No theorem here has a hypothesis beyond this: the policies are accepted, or for row 11 and for the starts the rows before row 11 let the files pass, or the books pass
 -- the checks and, where two are compared, have one frame.
 use mathlib.Core.Path.{_≡_, sym, ap, _∙_, subst, subst₂}
 use mathlib.Core.Bool.{true}

@@ -1,5 +1,5 @@
--- The owner's demands 2 and 3, the states of the book of a policy, the start, row 11 and the levels, and what verdict, compare, the page and the way
--- owe for any book, as statements about histories. proofs/Demands.antt proves each, and proofs/Calls.antt those over the calls.
+-- The owner's demands 2 and 3, the states of the book of a policy, the start, row 11 and the levels, what verdict, compare, the page and the way
+-- owe for any book, and the test for equal bytes, as statements about histories. proofs/Demands.antt proves each, and proofs/Calls.antt those over the calls.
 -- A reader who believes the definitions and these statements needs to believe nothing else.
 use mathlib.Core.Path.{_≡_}
 use mathlib.Core.Bool.{Bool, true, false}

@@ -5,7 +5,7 @@ use native.Mathlib.Omega.{arith}
 use lib.ListN.{length}
 use Rattle.automaton.proofs.ByteWords.{part-of-one}
 use Rattle.book.specs.SameBytes.{SameSoFar}
-use Rattle.book.proofs.Equal.{more-read, part-differs, all-read}
+use Rattle.book.proofs.SameBytes.{more-read, part-differs, all-read}
 use borrow.Author.Needs.{needs}
 use borrow.Author.Tests.{eq-eqb, ne-eqb}
 use Rattle.book.proofs.same.first_unequal.Statement.{statement}

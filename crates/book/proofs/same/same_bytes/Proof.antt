@@ -1,10 +1,10 @@
--- `same_bytes` meets its contract: the blocks passed so far are equal.
+-- `same_bytes` meets its contract: the words passed so far are equal.
 use mathlib.Core.Path.{ap}
 use Prim.Native.Nat.{_-_}
 use native.Mathlib.Omega.{arith}
 use lib.ListN.{length}
 use Rattle.book.specs.SameBytes.{SameSoFar}
-use Rattle.book.proofs.Equal.{lists-differ, nothing-read, more-read, part-differs}
+use Rattle.book.proofs.SameBytes.{lists-differ, nothing-read, more-read, part-differs}
 use borrow.Author.Needs.{needs}
 use Rattle.book.proofs.same.same_bytes.Statement.{statement}
 use Rattle.book.proofs.same.same_bytes.Tie as tie

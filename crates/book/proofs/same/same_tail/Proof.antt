@@ -1,6 +1,6 @@
 -- `same_tail` meets its contract.
 use native.Mathlib.Omega.{arith}
-use Rattle.book.proofs.Equal.{more-read, part-differs}
+use Rattle.book.proofs.SameBytes.{more-read, part-differs}
 use borrow.Author.Needs.{needs}
 use Rattle.book.proofs.same.same_tail.Statement.{statement}
 use Rattle.book.proofs.same.same_tail.Tie as tie

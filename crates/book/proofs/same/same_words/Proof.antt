@@ -4,7 +4,7 @@ use native.Mathlib.Omega.{arith}
 use lib.ListN.{length}
 use Rattle.automaton.proofs.ByteWords.{words-equal}
 use Rattle.book.specs.SameBytes.{SameSoFar}
-use Rattle.book.proofs.Equal.{more-read, part-differs}
+use Rattle.book.proofs.SameBytes.{more-read, part-differs}
 use borrow.Author.Needs.{needs}
 use Rattle.book.proofs.same.same_words.Statement.{statement}
 use Rattle.book.proofs.same.same_words.Tie as tie
