@@ -85,7 +85,7 @@ fn same_words(first: &[u8], second: &[u8], from: usize) -> bool
     same_tail(first, second, k)
 }
 
-// Whether two byte strings, books or not, are equal. A string without a whole word goes straight to its single bytes, and the compiler unrolls their loop.
+// Whether two byte strings, books or not, are equal. A string without a whole word is all tail.
 pub fn same_bytes(first: &[u8], second: &[u8]) -> bool
     ensures { λ r. ⌜ r ≡ sameBytes (now (first .entry)) (now (second .entry)) ⌝ }
 {
@@ -93,7 +93,7 @@ pub fn same_bytes(first: &[u8], second: &[u8]) -> bool
         return false;
     }
     if first.len() < 8 {
-        return first_unequal(first, second, 0) == first.len();
+        return same_tail(first, second, 0);
     }
     let mut k = 0;
     while k + 64 <= first.len() {

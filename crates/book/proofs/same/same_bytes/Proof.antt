@@ -20,11 +20,11 @@ returns c =
     let a = c .before .before .before .args in
     lists-differ (a .first .now) (a .second .now) (λ e. c .if1 .taken (ap length e))
 
-first-unequal-requires : tie.Need-first-unequal-requires Inv-loop μ-loop
-first-unequal-requires c κs = nothing-read _ _ (c .before .if1 .left)
+same-tail-requires : tie.Need-same-tail-requires Inv-loop μ-loop
+same-tail-requires c κs = nothing-read _ _ (c .before .if1 .left)
 
 returns-2 : tie.Need-returns-2 Inv-loop μ-loop
-returns-2 c = c .first-unequal .ensures
+returns-2 c = c .same-tail .ensures
 
 loop-holds : tie.Need-loop-holds Inv-loop μ-loop
 loop-holds c = nothing-read _ _ (c .before .if1 .left)
@@ -65,7 +65,7 @@ same-bytes-spec =
     Inv-loop
     μ-loop
     returns
-    first-unequal-requires
+    same-tail-requires
     returns-2
     loop-holds
     add-loop
