@@ -18,16 +18,16 @@ abbrev μ-loop : tie.MeasureT-loop
 returns : tie.Need-returns Inv-loop μ-loop
 returns c =
     let a = c .before .before .before .args in
-    lists-differ (a .first .now) (a .second .now) (λ e. c .if1 .taken (ap length e))
+    lists-differ (a .first .now) (a .second .now) (λ e. omega (arith, ap length e))
 
 same-tail-requires : tie.Need-same-tail-requires Inv-loop μ-loop
-same-tail-requires c κs = nothing-read _ _ (c .before .if1 .left)
+same-tail-requires c κs = nothing-read _ _ (omega arith)
 
 returns-2 : tie.Need-returns-2 Inv-loop μ-loop
 returns-2 c = c .same-tail .ensures
 
 loop-holds : tie.Need-loop-holds Inv-loop μ-loop
-loop-holds c = nothing-read _ _ (c .before .if1 .left)
+loop-holds c = nothing-read _ _ (omega arith)
 
 add-loop : tie.Need-add-loop Inv-loop μ-loop
 add-loop c = search needs
