@@ -61,34 +61,38 @@ pub const KINDS: [&str; 27] = [
 
 /// The input of a kind named in `KINDS` for a seed, nothing for another name.
 pub fn one(kind: &str, seed: u64) -> Option<Vec<u8>> {
+    if let Some(kind) = kind.strip_suffix("-first") {
+        return two(kind, seed).map(|(first, _)| first);
+    }
+    if let Some(kind) = kind.strip_suffix("-second") {
+        return two(kind, seed).map(|(_, second)| second);
+    }
     Some(match kind {
         "policy" => policy(seed),
-        "policy-pair-first" => policy_pair(seed).0,
-        "policy-pair-second" => policy_pair(seed).1,
         "damaged-policy" => damaged_policy(seed),
         "book" => book(seed),
         "damaged-book" => damaged_book(seed),
         "late-finding-book" => late_finding_book(seed),
-        "pair-first" => book_pair(seed).0,
-        "pair-second" => book_pair(seed).1,
-        "longest-pair-first" => longest_pair(seed).0,
-        "longest-pair-second" => longest_pair(seed).1,
-        "faulty-pair-first" => faulty_pair(seed).0,
-        "faulty-pair-second" => faulty_pair(seed).1,
         "play" => play(seed),
         "starting-policy" => starting_policy(seed),
         "damaged-starting-policy" => damaged_starting_policy(seed),
-        "starting-pair-first" => starting_pair(seed).0,
-        "starting-pair-second" => starting_pair(seed).1,
         "late-outcome-book" => late_outcome_book(seed),
-        "equal-strings-first" => equal_strings(seed).0,
-        "equal-strings-second" => equal_strings(seed).1,
-        "one-bit-strings-first" => one_bit_strings(seed).0,
-        "one-bit-strings-second" => one_bit_strings(seed).1,
-        "cancelling-strings-first" => cancelling_strings(seed).0,
-        "cancelling-strings-second" => cancelling_strings(seed).1,
-        "prefix-strings-first" => prefix_strings(seed).0,
-        "prefix-strings-second" => prefix_strings(seed).1,
+        _ => return None,
+    })
+}
+
+/// The two inputs of a kind that comes in pairs.
+fn two(kind: &str, seed: u64) -> Option<(Vec<u8>, Vec<u8>)> {
+    Some(match kind {
+        "policy-pair" => policy_pair(seed),
+        "pair" => book_pair(seed),
+        "longest-pair" => longest_pair(seed),
+        "faulty-pair" => faulty_pair(seed),
+        "starting-pair" => starting_pair(seed),
+        "equal-strings" => equal_strings(seed),
+        "one-bit-strings" => one_bit_strings(seed),
+        "cancelling-strings" => cancelling_strings(seed),
+        "prefix-strings" => prefix_strings(seed),
         _ => return None,
     })
 }

@@ -142,6 +142,18 @@ same-list-true (x ∷ xs) (y ∷ ys) e =
     let tail : xs ≡ ys = same-list-true xs ys (both .1) in
     cc
 
+-- the test of lists decides whether they are equal
+module _ (xs ys : List ℕ) where
+  pub same-list-yes : xs ≡ ys → true ≡ sameList xs ys
+  same-list-yes e = rw e (sym (same-list-refl ys))
+
+  pub same-list-no : (xs ≡ ys → ⊥) → false ≡ sameList xs ys
+  same-list-no n = go (sameList xs ys) refl
+    where
+      go : (b : Bool) → sameList xs ys ≡ b → false ≡ b
+      go true e = absurd (n (same-list-true xs ys e))
+      go false e = refl
+
 one-on-suc : (p k : ℕ) → sucPositive p ≡ suc k → (j : ℕ) × (p ≡ suc j) × (k ≡ suc j)
 one-on-suc zero k e = absurd (omega arith)
 one-on-suc (suc p) k e = (p, refl, omega arith)

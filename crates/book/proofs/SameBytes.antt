@@ -1,7 +1,7 @@
 -- Two strings of one length that are read from the front: equal where no place is left, and not where a part differs.
-use mathlib.Core.Bool.{Bool, true, false}
+use mathlib.Core.Bool.{true, false}
 use mathlib.Core.List.{List}
-use mathlib.Core.Path.{_≡_, refl, sym, ap, _∙_}
+use mathlib.Core.Path.{_≡_, ap}
 use Prim.Native.Nat.{ℕ, _+_, _≤_}
 use native.Mathlib.Nat.{zero-add}
 use native.Mathlib.Omega.{arith}
@@ -9,16 +9,9 @@ use lib.ListN.{length, getD}
 use lib.Seq.{ext-getD}
 use Rattle.automaton.specs.Below.{sameList}
 use Rattle.automaton.specs.ByteWords.{SamePart}
-use Rattle.automaton.proofs.Below.{same-list-refl, same-list-true}
+use Rattle.automaton.proofs.Below.{same-list-yes, same-list-no}
 use Rattle.automaton.proofs.ByteWords.{parts-joined}
 use Rattle.book.specs.SameBytes.{SameSoFar}
-
-pub lists-differ : (xs ys : List ℕ) → (xs ≡ ys → ⊥) → false ≡ sameList xs ys
-lists-differ xs ys n = go (sameList xs ys) refl
-  where
-    go : (b : Bool) → sameList xs ys ≡ b → false ≡ b
-    go true e = absurd (n (same-list-true xs ys e))
-    go false e = refl
 
 module _ (xs ys : List ℕ) where
   pub nothing-read : length xs ≡ length ys → SameSoFar xs ys 0
@@ -30,9 +23,7 @@ module _ (xs ys : List ℕ) where
       record { lengths = S .lengths; within = l; front = parts-joined xs ys 0 0 k n (S .front) (rw zero-add same) }
 
   pub part-differs : (n k : ℕ) → (SamePart n xs k ys k → ⊥) → false ≡ sameList xs ys
-  part-differs n k differ = lists-differ xs ys (λ e. differ (λ i b. ap (λ (l : List ℕ). getD l (k + i) 0) e))
+  part-differs n k differ = same-list-no xs ys (λ e. differ (λ i b. ap (λ (l : List ℕ). getD l (k + i) 0) e))
 
   pub all-read : (k : ℕ) → SameSoFar xs ys k → length xs ≤ k → true ≡ sameList xs ys
-  all-read k S end =
-      let same : xs ≡ ys = ext-getD 0 xs ys (S .lengths) (λ i b. rw zero-add at (S .front i (omega (arith, S .within)))) in
-      sym (ap (sameList xs) (sym same) ∙ same-list-refl xs)
+  all-read k S end = same-list-yes xs ys (ext-getD 0 xs ys (S .lengths) (λ i b. rw zero-add at (S .front i (omega (arith, S .within)))))

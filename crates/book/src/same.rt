@@ -3,7 +3,6 @@
 ghost use mathlib.Core.Path.{_≡_};
 ghost use mathlib.Core.Logic.{_↔_};
 ghost use Prim.Native.Nat.{_+_, _≤_};
-ghost use lib.Dec.{eqb};
 ghost use lib.ListN.{length};
 ghost use Rattle.automaton.specs.Below.{sameList};
 ghost use Rattle.automaton.specs.ByteWords.{SamePart};
@@ -41,22 +40,22 @@ fn byte_differences(first: &[u8], second: &[u8], k: usize) -> u8
     gathered
 }
 
-// The first place at which two strings of one length differ that are the same up to `from`; their length if there is none.
-fn first_unequal(first: &[u8], second: &[u8], from: usize) -> usize
+// Whether two strings of one length are equal that are the same up to `from`: one byte after the other.
+fn same_single_bytes(first: &[u8], second: &[u8], from: usize) -> bool
     requires { ⌜ SameSoFar (now first) (now second) from ⌝ }
-    ensures { λ r. ⌜ eqb r (length (now (first .entry))) ≡ sameBytes (now (first .entry)) (now (second .entry)) ⌝ }
+    ensures { λ r. ⌜ r ≡ sameBytes (now (first .entry)) (now (second .entry)) ⌝ }
 {
     let mut k = from;
     while k < first.len() {
         if first[k] != second[k] {
-            return k;
+            return false;
         }
         k += 1;
     }
-    first.len()
+    true
 }
 
-// Whether two strings of one length are equal that are the same up to `from`: single bytes, four at once where four remain.
+// The same, four single bytes at once where four remain.
 fn same_tail(first: &[u8], second: &[u8], from: usize) -> bool
     requires { ⌜ SameSoFar (now first) (now second) from ⌝ }
     ensures { λ r. ⌜ r ≡ sameBytes (now (first .entry)) (now (second .entry)) ⌝ }
@@ -65,9 +64,9 @@ fn same_tail(first: &[u8], second: &[u8], from: usize) -> bool
         if byte_differences(first, second, from) != 0 {
             return false;
         }
-        return first_unequal(first, second, from + 4) == first.len();
+        return same_single_bytes(first, second, from + 4);
     }
-    first_unequal(first, second, from) == first.len()
+    same_single_bytes(first, second, from)
 }
 
 // The same by words where eight bytes remain.
@@ -91,6 +90,9 @@ pub fn same_bytes(first: &[u8], second: &[u8]) -> bool
 {
     if first.len() != second.len() {
         return false;
+    }
+    if first.len() == 0 {
+        return true;
     }
     if first.len() < 8 {
         return same_tail(first, second, 0);

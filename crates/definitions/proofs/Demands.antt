@@ -2,12 +2,10 @@
 -- for any book, and equal bytes. No theorem here has a hypothesis beyond this: the policies are accepted, or for row 11 and for the starts the rows before row 11 let the files pass, or the books pass
 -- the checks and, where two are compared, have one frame.
 use mathlib.Core.Path.{_≡_, sym, ap, _∙_, subst, subst₂}
-use mathlib.Core.Bool.{true}
 use mathlib.Core.List.{List}
 use Prim.Native.Nat.{ℕ}
-use Rattle.automaton.specs.Below.{sameList}
 use Rattle.automaton.specs.Machine.{possible, SameHistories}
-use Rattle.automaton.proofs.Below.{same-list-refl, same-list-true}
+use Rattle.automaton.proofs.Below.{same-list-true, same-list-yes}
 use Rattle.definitions.specs.Policy as P
 use Rattle.definitions.specs.Situation.{policyMachine}
 use Rattle.definitions.specs.Book as B
@@ -85,4 +83,4 @@ policy-way p accepted r outcome =
     (subst (λ (E : ℕ). WayIsRight (B.bookMachine b) E r outcome (way b r outcome)) (built-events p accepted) (ways-right b (built-passes p accepted) .ways r outcome))
 
 pub same-bytes-right : (x y : List ℕ) → SameBytesIsRight x y
-same-bytes-right x y = (same-list-true x y, λ e. subst (λ (z : List ℕ). sameList x z ≡ true) e (same-list-refl x))
+same-bytes-right x y = (same-list-true x y, λ e. sym (same-list-yes x y e))

@@ -11,7 +11,7 @@ use lib.Seq.{length-take-le, getD-take, ext-getD}
 use borrow.Author.Tests.{eq-eqb}
 use Rattle.automaton.specs.Below.{sameList}
 use Rattle.automaton.specs.Join.{classOf, classRows, firstLike, refine, classesAfter, classes}
-use Rattle.automaton.proofs.Below.{and-true, same-list-refl, same-list-true, place-hit}
+use Rattle.automaton.proofs.Below.{and-true, same-list-refl, same-list-true, same-list-yes, same-list-no, place-hit}
 use Rattle.automaton.proofs.WellFormed.{IsTable, getD-map-within}
 use Rattle.automaton.proofs.AlikeWithin.{NamedByFirst, class-positive, classes-after-named, classes-after}
 use Rattle.definitions.specs.Bytes.{byte}
@@ -38,18 +38,13 @@ module _ (f : ℕ → ℕ) (row other : List ℕ) (w : ℕ) (long : w ≤ length
       (λ c b. let l : c < w = omega (arith, row-length row long) in entry-at row c long l ∙ same c l ∙ sym (entry-at other c long-other l))
 
   pub rows-same : ((c : ℕ) → c < w → f (getD row c 0) ≡ f (getD other c 0)) → true ≡ sameList (map f (take w row)) (map f (take w other))
-  rows-same same = sym (rw (rows-equal same) (same-list-refl (map f (take w other))))
+  rows-same same = same-list-yes (map f (take w row)) (map f (take w other)) (rows-equal same)
 
   pub entries-equal : map f (take w row) ≡ map f (take w other) → (c : ℕ) → c < w → f (getD row c 0) ≡ f (getD other c 0)
   entries-equal equal c l = sym (entry-at row c long l) ∙ ap (λ (xs : List ℕ). getD xs c 0) equal ∙ entry-at other c long-other l
 
   pub rows-differ : (c : ℕ) → c < w → (f (getD row c 0) ≡ f (getD other c 0) → ⊥) → false ≡ sameList (map f (take w row)) (map f (take w other))
-  rows-differ c l differ = go (sameList (map f (take w row)) (map f (take w other))) refl
-    where
-      go : (b : Bool) → sameList (map f (take w row)) (map f (take w other)) ≡ b → false ≡ b
-      go true e =
-          absurd (differ (entries-equal (same-list-true (map f (take w row)) (map f (take w other)) e) c l))
-      go false e = refl
+  rows-differ c l differ = same-list-no (map f (take w row)) (map f (take w other)) (λ equal. differ (entries-equal equal c l))
 
 -- ---- the states of a table, from 1 on, with their classes in an array
 module _ {raw : List ℕ} {w : ℕ} {classes : List ℕ} (now : InRounds raw w classes) where

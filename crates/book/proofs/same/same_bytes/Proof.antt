@@ -4,7 +4,8 @@ use Prim.Native.Nat.{_-_}
 use native.Mathlib.Omega.{arith}
 use lib.ListN.{length}
 use Rattle.book.specs.SameBytes.{SameSoFar}
-use Rattle.book.proofs.SameBytes.{lists-differ, nothing-read, more-read, part-differs}
+use Rattle.automaton.proofs.Below.{same-list-no}
+use Rattle.book.proofs.SameBytes.{nothing-read, more-read, part-differs, all-read}
 use borrow.Author.Needs.{needs}
 use Rattle.book.proofs.same.same_bytes.Statement.{statement}
 use Rattle.book.proofs.same.same_bytes.Tie as tie
@@ -18,13 +19,18 @@ abbrev μ-loop : tie.MeasureT-loop
 returns : tie.Need-returns Inv-loop μ-loop
 returns c =
     let a = c .before .before .before .args in
-    lists-differ (a .first .now) (a .second .now) (λ e. omega (arith, ap length e))
+    same-list-no (a .first .now) (a .second .now) (λ e. omega (arith, ap length e))
+
+returns-2 : tie.Need-returns-2 Inv-loop μ-loop
+returns-2 c =
+    let a = c .before .before .before .before .args in
+    all-read (a .first .now) (a .second .now) 0 (nothing-read _ _ (omega arith)) (omega arith)
 
 same-tail-requires : tie.Need-same-tail-requires Inv-loop μ-loop
 same-tail-requires c κs = nothing-read _ _ (omega arith)
 
-returns-2 : tie.Need-returns-2 Inv-loop μ-loop
-returns-2 c = c .same-tail .ensures
+returns-3 : tie.Need-returns-3 Inv-loop μ-loop
+returns-3 c = c .same-tail .ensures
 
 loop-holds : tie.Need-loop-holds Inv-loop μ-loop
 loop-holds c = nothing-read _ _ (omega arith)
@@ -35,10 +41,10 @@ add-loop c = search needs
 word-differences-requires : tie.Need-word-differences-requires Inv-loop μ-loop
 word-differences-requires c κs = (search needs, omega (arith, c .before .loop .inv .lengths))
 
-returns-3 : tie.Need-returns-3 Inv-loop μ-loop
-returns-3 c =
-    let a = c .before .before .before .before .before .before .before .before .args in
-    part-differs (a .first .now) (a .second .now) 64 (c .before .before .before .loop .k) (λ same. c .if3 .taken (c .before .word-differences .ensures .1 same))
+returns-4 : tie.Need-returns-4 Inv-loop μ-loop
+returns-4 c =
+    let a = c .before .before .before .before .before .before .before .before .before .args in
+    part-differs (a .first .now) (a .second .now) 64 (c .before .before .before .loop .k) (λ same. c .if4 .taken (c .before .word-differences .ensures .1 same))
 
 add-k : tie.Need-add-k Inv-loop μ-loop
 add-k c = search needs
@@ -48,15 +54,15 @@ loop-less c = search needs
 
 loop-again : tie.Need-loop-again Inv-loop μ-loop
 loop-again c =
-    let a = c .before .before .before .before .before .before .before .before .args in
+    let a = c .before .before .before .before .before .before .before .before .before .args in
     let l = c .before .before .before .loop in
-    more-read (a .first .now) (a .second .now) (l .k) 64 (l .inv) (omega arith) (c .before .word-differences .ensures .0 (c .if3 .left))
+    more-read (a .first .now) (a .second .now) (l .k) 64 (l .inv) (omega arith) (c .before .word-differences .ensures .0 (c .if4 .left))
 
 same-words-requires : tie.Need-same-words-requires Inv-loop μ-loop
 same-words-requires c κs = c .before .loop .inv
 
-returns-4 : tie.Need-returns-4 Inv-loop μ-loop
-returns-4 c = c .same-words .ensures
+returns-5 : tie.Need-returns-5 Inv-loop μ-loop
+returns-5 c = c .same-words .ensures
 
 pub same-bytes-spec : {M : Type 1} → statement M
 same-bytes-spec =
@@ -65,14 +71,15 @@ same-bytes-spec =
     Inv-loop
     μ-loop
     returns
-    same-tail-requires
     returns-2
+    same-tail-requires
+    returns-3
     loop-holds
     add-loop
     word-differences-requires
-    returns-3
+    returns-4
     add-k
     loop-less
     loop-again
     same-words-requires
-    returns-4)
+    returns-5)

@@ -16,19 +16,19 @@ returns c =
     let a = c .before .before .before .before .before .args in
     part-differs (a .first .now) (a .second .now) 4 (a .from) (λ same. c .if2 .taken (c .before .byte-differences .ensures .1 same))
 
-add-first-unequal : tie.Need-add-first-unequal
-add-first-unequal c = search needs
+add-same-single-bytes : tie.Need-add-same-single-bytes
+add-same-single-bytes c = search needs
 
-first-unequal-requires : tie.Need-first-unequal-requires
-first-unequal-requires c κs =
+same-single-bytes-requires : tie.Need-same-single-bytes-requires
+same-single-bytes-requires c κs =
     let o = c .before .before .before .before .before in
     more-read (o .args .first .now) (o .args .second .now) (o .args .from) 4 (o .pre) (omega arith) (c .before .byte-differences .ensures .0 (c .if2 .left))
 
 returns-2 : tie.Need-returns-2
 returns-2 c = search needs
 
-first-unequal-requires-2 : tie.Need-first-unequal-requires-2
-first-unequal-requires-2 c κs = search needs
+same-single-bytes-requires-2 : tie.Need-same-single-bytes-requires-2
+same-single-bytes-requires-2 c κs = search needs
 
 returns-3 : tie.Need-returns-3
 returns-3 c = search needs
@@ -40,8 +40,8 @@ same-tail-spec =
     add-if1
     byte-differences-requires
     returns
-    add-first-unequal
-    first-unequal-requires
+    add-same-single-bytes
+    same-single-bytes-requires
     returns-2
-    first-unequal-requires-2
+    same-single-bytes-requires-2
     returns-3)

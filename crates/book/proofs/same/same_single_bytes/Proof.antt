@@ -1,5 +1,4 @@
--- `first_unequal` meets its contract: the bytes passed so far are equal.
-use mathlib.Core.Path.{refl, _∙_}
+-- `same_single_bytes` meets its contract: the bytes passed so far are equal.
 use Prim.Native.Nat.{_-_}
 use native.Mathlib.Omega.{arith}
 use lib.ListN.{length}
@@ -7,9 +6,8 @@ use Rattle.automaton.proofs.ByteWords.{part-of-one}
 use Rattle.book.specs.SameBytes.{SameSoFar}
 use Rattle.book.proofs.SameBytes.{more-read, part-differs, all-read}
 use borrow.Author.Needs.{needs}
-use borrow.Author.Tests.{eq-eqb, ne-eqb}
-use Rattle.book.proofs.same.first_unequal.Statement.{statement}
-use Rattle.book.proofs.same.first_unequal.Tie as tie
+use Rattle.book.proofs.same.same_single_bytes.Statement.{statement}
+use Rattle.book.proofs.same.same_single_bytes.Tie as tie
 
 abbrev Inv-loop : tie.InvT-loop
 Inv-loop first second from k₀ k = SameSoFar first second k
@@ -30,8 +28,7 @@ returns : tie.Need-returns Inv-loop μ-loop
 returns c =
     let a = c .before .before .before .before .before .args in
     let k = c .before .before .before .before .loop .k in
-    ne-eqb k (length (a .first .now)) (λ e. omega (arith, e))
-    ∙ part-differs (a .first .now) (a .second .now) 1 k (λ same. c .if1 .taken (part-of-one (a .first .now) (a .second .now) k k .1 same))
+    part-differs (a .first .now) (a .second .now) 1 k (λ same. c .if1 .taken (part-of-one (a .first .now) (a .second .now) k k .1 same))
 
 add-k : tie.Need-add-k Inv-loop μ-loop
 add-k c = search needs
@@ -49,10 +46,10 @@ returns-2 : tie.Need-returns-2 Inv-loop μ-loop
 returns-2 c =
     let a = c .before .before .args in
     let l = c .before .loop in
-    eq-eqb (length (a .first .now)) (length (a .first .now)) refl ∙ all-read (a .first .now) (a .second .now) (l .k) (l .inv) (omega arith)
+    all-read (a .first .now) (a .second .now) (l .k) (l .inv) (omega arith)
 
-pub first-unequal-spec : {M : Type 1} → statement M
-first-unequal-spec =
+pub same-single-bytes-spec : {M : Type 1} → statement M
+same-single-bytes-spec =
     tie.close
     (tie.spec
     Inv-loop
