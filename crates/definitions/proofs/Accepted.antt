@@ -32,7 +32,6 @@ pub record FileAccepted (p : List ℕ) : Type 0 where
   pub fieldsSome : 1 ≤ fields p
   pub fieldsMost : fields p ≤ 4
   pub variablesMost : variables p ≤ 4
-  pub rulesSome : 1 ≤ rules p
   pub rulesMost : rules p ≤ 32
   pub exact : length p ≡ exactLength p
   pub countSome : (f : ℕ) → f < fields p → 1 ≤ count p f
@@ -61,14 +60,13 @@ module _ (p : List ℕ) where
       go (inl h) = let both = version-true p 1 (omega arith) .0 h in (both .0, inl (both .1))
       go (inr h) = let both = version-true p 2 (omega arith) .0 h in (both .0, inr (both .1))
 
-  pub ranges-true : rangesHold p ≡ true → (events p ≤ 8) × (1 ≤ fields p) × (fields p ≤ 4) × (variables p ≤ 4) × (1 ≤ rules p) × (rules p ≤ 32)
+  pub ranges-true : rangesHold p ≡ true → (events p ≤ 8) × (1 ≤ fields p) × (fields p ≤ 4) × (variables p ≤ 4) × (rules p ≤ 32)
   ranges-true e =
       let three = and-true _ _ e in
       let two = and-true _ _ (three .0) in
       let one = and-true _ _ (two .0) in
       let f = within-true 1 (fields p) 4 .0 (one .1) in
-      let r = within-true 1 (rules p) 32 .0 (three .1) in
-      (leb-true (events p) 8 (one .0), f .0, f .1, leb-true (variables p) 4 (two .1), r .0, r .1)
+      (leb-true (events p) 8 (one .0), f .0, f .1, leb-true (variables p) 4 (two .1), leb-true (rules p) 32 (three .1))
 
   pub counts-true : countsHold p ≡ true → ((f : ℕ) → f < fields p → (1 ≤ count p f) × (count p f ≤ 16)) × (requests p ≤ 64)
   counts-true e =
@@ -117,8 +115,7 @@ module _ (p : List ℕ) where
         fieldsSome = ranges .1;
         fieldsMost = ranges .2;
         variablesMost = ranges .3;
-        rulesSome = ranges .4;
-        rulesMost = ranges .5;
+        rulesMost = ranges .4;
         exact = eqb-true (length p) (exactLength p) (passes 6);
         countSome = λ f l. counts .0 f l .0;
         countMost = λ f l. counts .0 f l .1;

@@ -1,27 +1,29 @@
--- Demands 2 and 3, the way and equal bytes over the calls: the books that build leaves in buffers, whatever these held, and what the other calls answer on them.
-use mathlib.Core.Path.{_≡_, refl, sym, ap₂, _∙_, subst⁻¹, subst₂}
+-- Demands 2 and 3, the way, equal bytes and policies without rules over the calls: the books that build leaves in buffers, whatever these held, and what the other calls answer on them.
+use mathlib.Core.Path.{_≡_, refl, sym, ap, ap₂, _∙_, subst⁻¹, subst₂}
 use mathlib.Core.Bool.{true}
 use mathlib.Core.Logic.{_↔_}
 use mathlib.Core.List.{List}
-use Prim.Native.Nat.{ℕ, _≤_, _<_}
+use Prim.Native.Nat.{ℕ, _+_, _*_, _≤_, _<_}
+use native.Mathlib.Nat.{one-mul}
 use lib.ListN.{length}
 use borrow.Author.Tests.{le-leb, lt-ltb}
 use Rattle.automaton.specs.Machine.{SameHistories}
 use Rattle.automaton.proofs.Below.{same-list-refl}
-use Rattle.definitions.specs.Answer.{given, written, historyBytes}
+use Rattle.definitions.specs.Answer.{Answer, given, written, historyBytes}
 use Rattle.definitions.specs.Policy as P
 use Rattle.definitions.specs.Situation.{policyMachine}
 use Rattle.definitions.specs.Book as B
 use Rattle.definitions.specs.Refusal.{Accepted, bookRefusal, row15}
 use Rattle.definitions.specs.Build.{bookOf, buildRefusal, buildAnswer, buildBuffer}
-use Rattle.definitions.specs.Verdict.{findings, verdictRefusal, verdictAnswer, verdictBuffers}
+use Rattle.definitions.specs.Verdict.{Findings, findings, verdictRefusal, verdictAnswer, verdictBuffers}
 use Rattle.definitions.specs.Compare.{sameBytes, comparison, compareRefusal, compareAnswer, compareBuffer}
 use Rattle.definitions.specs.Way.{way, wayRefusal, wayAnswer, wayBuffer}
-use Rattle.definitions.specs.Demands.{bookIn, bookBuilt, buffersWith, JudgedInBuffers, Demand2OfCalls, BooksInBuffers, Demand3OfCalls, WayInBuffer, WayOfCalls, SameBytesOfCalls}
+use Rattle.definitions.specs.Demands.{bookIn, bookBuilt, buffersWith, JudgedInBuffers, Demand2OfCalls, BooksInBuffers, Demand3OfCalls, WayInBuffer, WayOfCalls, SameBytesOfCalls, nothingAnswered, NoRulesInBuffers, NoRulesOfCalls, NoRulesShareBuilt}
 use Rattle.definitions.proofs.Answers.{given-answer, given-buffer}
 use Rattle.definitions.proofs.Written.{take-written}
-use Rattle.definitions.proofs.BookOf.{built-passes, built-requests, frames-same}
+use Rattle.definitions.proofs.BookOf.{built-passes, built-events, built-requests, frames-same}
 use Rattle.definitions.proofs.Demands.{demand2, demand3, policy-way, same-bytes-right}
+use Rattle.definitions.proofs.NoRules.{no-rules-right, no-rules-share}
 
 -- ---- build
 module _ (p buffer : List ℕ) (accepted : Accepted p) (long : 17284 ≤ length buffer) where
@@ -140,3 +142,27 @@ same-bytes-of-calls p q first second one two long-first long-second =
     subst₂ (λ (b d : List ℕ). (sameBytes b d ≡ true) ↔ ((P.frame p ≡ P.frame q) × SameHistories (policyMachine p) (policyMachine q)))
     (sym (book-built p first one long-first)) (sym (book-built q second two long-second))
     ((λ same. books .0 (equal .0 same)), λ alike. equal .1 (books .1 alike))
+
+pub no-rules-of-calls : (p buffer forConflict forMissing forBlocked : List ℕ) → P.rules p ≡ 0 → Accepted p → 17284 ≤ length buffer
+    → 128 ≤ length forConflict → 128 ≤ length forMissing → 128 ≤ length forBlocked → NoRulesOfCalls p buffer forConflict forMissing forBlocked
+no-rules-of-calls p buffer forConflict forMissing forBlocked none accepted long longConflict longMissing longBlocked =
+    let right = no-rules-right p none accepted in
+    let demand = demand2 p accepted in
+    let width : B.width (bookOf p) ≡ P.width p = rw (built-events p accepted, built-requests p accepted) in
+    subst⁻¹ (λ (b : List ℕ). NoRulesInBuffers p b forConflict forMissing forBlocked) (book-built p buffer accepted long)
+    (record {
+      right = right;
+      size = demand .size ∙ ap₂ (λ (n w : ℕ). 12 + n * w) (right .one) width ∙ ap (λ (w : ℕ). 12 + w) (one-mul (P.width p));
+      answered =
+          verdict-given (bookOf p) forConflict forMissing forBlocked (demand .passes) longConflict longMissing longBlocked
+          ∙ ap {B = Answer Findings} given (right .findings);
+      buffers =
+          verdict-written (bookOf p) forConflict forMissing forBlocked (demand .passes) longConflict longMissing longBlocked
+          ∙ ap (λ (found : Findings). buffersWith found forConflict forMissing forBlocked) (right .findings);
+    })
+
+pub no-rules-share-built : (p q first second : List ℕ) → P.rules p ≡ 0 → P.rules q ≡ 0 → Accepted p → Accepted q → 17284 ≤ length first → 17284 ≤ length second
+    → NoRulesShareBuilt p q first second
+no-rules-share-built p q first second none-first none-second one two long-first long-second =
+    subst₂ (λ (b d : List ℕ). (b ≡ d) ↔ (P.frame p ≡ P.frame q)) (sym (book-built p first one long-first)) (sym (book-built q second two long-second))
+    (no-rules-share p q none-first none-second one two)

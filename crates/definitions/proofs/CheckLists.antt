@@ -1,11 +1,11 @@
--- Rows judged in order: what it says that none of them refuses, that one of them does, and that those before one pass. A row is named by its number.
+-- Rows judged in order: what it says that none of them refuses, that one of them does, that one passes, and that those before one pass. A row is named by its number.
 use mathlib.Core.Path.{_≡_, refl, sym, _∙_}
-use mathlib.Core.Bool.{Bool, cond, true, false, _&&_, false≢true, true≢false}
+use mathlib.Core.Bool.{Bool, cond, true, false, not, _&&_, false≢true, true≢false}
 use mathlib.Core.List.{List, [], _∷_}
 use Prim.Native.Nat.{ℕ, zero, suc, _≤_}
 use native.Mathlib.Omega.{arith}
 use lib.Dec.{leb, eqb}
-use borrow.Author.Tests.{leb-true, eqb-true}
+use borrow.Author.Tests.{leb-true, eqb-true, eqb-false, not-true}
 use Rattle.automaton.proofs.Below.{and-true}
 use Rattle.definitions.specs.Answer.{judge, Check, row, refusalBy}
 
@@ -35,6 +35,11 @@ pub record PassedBefore (n : ℕ) (rows : List Check) (x : List ℕ) : Type 0 wh
 abbrev pub numbersHold : (ℕ → Bool) → List Check → Bool
 numbersHold test [] = true
 numbersHold test (row m passes ∷ later) = test m && numbersHold test later
+
+-- no two rows have one number
+abbrev pub numbersDiffer : List Check → Bool
+numbersDiffer [] = true
+numbersDiffer (row m passes ∷ later) = numbersHold (λ k. not (eqb k m)) later && numbersDiffer later
 
 module _ (x : List ℕ) where
   decided : (n : ℕ) (rows : List Check) (A : Type 0) → With n rows x A → A × (refusalBy rows x ≡ refusalBy (rowsFrom n rows) x)
@@ -79,6 +84,31 @@ module _ (x : List ℕ) where
       go : (b : Bool) → m ≤ most → refusalBy later x ≤ most → judge m b (refusalBy later x) ≤ most
       go true l rest = rest
       go false l rest = l
+
+  -- and none that no row has
+  pub refusal-among : (n : ℕ) (rows : List Check) → 1 ≤ n → numbersHold (λ k. not (eqb k n)) rows ≡ true → refusalBy rows x ≡ n → ⊥
+  refusal-among n [] some others e = omega arith
+  refusal-among n (row m passes ∷ later) some others e =
+      let numbers = and-true _ _ others in
+      go (passes x) (eqb-false m n (not-true (eqb m n) (numbers .0))) (refusal-among n later some (numbers .1)) e
+    where
+      go : (b : Bool) → (m ≡ n → ⊥) → (refusalBy later x ≡ n → ⊥) → judge m b (refusalBy later x) ≡ n → ⊥
+      go true other rest e = rest e
+      go false other rest e = other e
+
+  -- nor that of a row whose test passes
+  pub row-not-returned : (n : ℕ) (rows : List Check) → 1 ≤ n → numbersDiffer rows ≡ true → rowTest n rows x ≡ true → refusalBy rows x ≡ n → ⊥
+  row-not-returned n [] some differ holds e = omega arith
+  row-not-returned n (row m passes ∷ later) some differ holds e =
+      let both = and-true _ _ differ in
+      go (eqb n m) refl (passes x) refl (both .0) (row-not-returned n later some (both .1)) holds e
+    where
+      go : (same : Bool) → eqb n m ≡ same → (b : Bool) → passes x ≡ b → numbersHold (λ k. not (eqb k m)) later ≡ true
+          → (rowTest n later x ≡ true → refusalBy later x ≡ n → ⊥) → cond same (passes x) (rowTest n later x) ≡ true → judge m b (refusalBy later x) ≡ n → ⊥
+      go true s true is others rest h e = refusal-among m later (omega (arith, eqb-true n m s)) others (e ∙ eqb-true n m s)
+      go true s false is others rest h e = false≢true (sym is ∙ h)
+      go false s true is others rest h e = rest h e
+      go false s false is others rest h e = eqb-false n m s (sym e)
 
 module _ {n : ℕ} {rows : List Check} {x : List ℕ} (before : PassedBefore n rows x) where
   -- where the rows before row n pass, that row and those after it decide

@@ -30,6 +30,7 @@ pub mod BookOf
 pub mod BookStates
 pub mod SameRules
 pub mod Demands
+pub mod NoRules
 pub mod Calls
 pub mod ShelfText
 pub mod PageLines

@@ -30,7 +30,7 @@ exact-short p E F P R =
 too-long : (p : List ℕ) → 754 ≤ length p → rangesHold p ≡ true → refusalBy (rowsFrom 6 fileChecks) p ≡ 6
 too-long p l e =
     let r = ranges-true p e in
-    let short = exact-short p (r .0) (r .2) (r .3) (r .5) in
+    let short = exact-short p (r .0) (r .2) (r .3) (r .4) in
     rw (ne-eqb (length p) (exactLength p) (λ same. omega arith)) refl
 
 judge-as : (number : ℕ) (passes : Bool) (x y : ℕ) → (passes ≡ true → x ≡ y) → judge number passes x ≡ judge number passes y

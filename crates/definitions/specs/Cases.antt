@@ -12,5 +12,6 @@ pub mod Calls
 pub mod Starts
 pub mod Pages
 pub mod Ways
+pub mod NoRules
 pub mod Large
 pub mod Table

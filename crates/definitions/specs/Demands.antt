@@ -1,5 +1,6 @@
 -- The owner's demands 2 and 3, the states of the book of a policy, the start, row 11 and the levels, what verdict, compare, the page and the way
--- owe for any book, and the test for equal bytes, as statements about histories. proofs/Demands.antt proves each, and proofs/Calls.antt those over the calls.
+-- owe for any book, the test for equal bytes, and policies without rules, as statements about histories. proofs/Demands.antt proves each, proofs/NoRules.antt those on
+-- policies without rules, and proofs/Calls.antt those over the calls.
 -- A reader who believes the definitions and these statements needs to believe nothing else.
 use mathlib.Core.Path.{_≡_}
 use mathlib.Core.Bool.{Bool, true, false}
@@ -295,3 +296,42 @@ SameBytesIsRight x y = (sameBytes x y ≡ true) ↔ (x ≡ y)
 abbrev pub SameBytesOfCalls : List ℕ → List ℕ → List ℕ → List ℕ → Type 0
 SameBytesOfCalls p q first second =
     (sameBytes (bookBuilt p first) (bookBuilt q second) ≡ true) ↔ ((P.frame p ≡ P.frame q) × SameHistories (policyMachine p) (policyMachine q))
+
+-- ---- request 5 of document 02: a policy p without rules, whatever its variables, starting values and changes of events are
+
+-- no row that judges rules, or what they lead to, turns such a file down: neither a mask, nor too many valuations, nor too many situations
+abbrev pub NoRulesPass : List ℕ → Type 0
+NoRulesPass p = (policyRefusal p ≡ 8 → ⊥) × (policyRefusal p ≡ 10 → ⊥) × (policyRefusal p ≡ 11 → ⊥)
+
+-- "Missing is request 0 after the empty history; blocked holds after the empty history", and there is no conflict
+abbrev pub nothingAnswered : Findings
+nothingAnswered = record { conflict = none; missing = some (record { request = 0; history = [] }); blocked = some [] }
+
+-- of its book b, where the policy is accepted
+pub record NoRulesAreRight (p b : List ℕ) : Type 0 where
+  -- "a policy that answers nothing": the possible histories are the lists of events
+  pub histories : (h : History) → (possible (policyMachine p) h ≡ true) ↔ Events (P.events p) h
+  -- "Its book has one state whose events lead to itself"
+  pub one : B.states b ≡ 1
+  pub events : (e : ℕ) → e < P.events p → B.entry b 1 e ≡ 1
+  -- and no request is possible
+  pub requests : (c : ℕ) → P.events p ≤ c → c < P.width p → B.entry b 1 c ≡ 0
+  pub findings : findings b ≡ nothingAnswered
+
+-- "Two such policies of equal frame have equal books whatever their variables are", and equal books only then
+abbrev pub NoRulesShareBooks : List ℕ → List ℕ → Type 0
+NoRulesShareBooks p q = (bookOf p ≡ bookOf q) ↔ (P.frame p ≡ P.frame q)
+
+-- over the calls: b stands in the buffer after build was called on p, the other three buffers are verdict's, in which no byte changes
+pub record NoRulesInBuffers (p b forConflict forMissing forBlocked : List ℕ) : Type 0 where
+  pub right : NoRulesAreRight p b
+  pub size : length b ≡ 12 + P.width p
+  pub answered : verdictAnswer b forConflict forMissing forBlocked ≡ given nothingAnswered
+  pub buffers : verdictBuffers b forConflict forMissing forBlocked ≡ record { forConflict = forConflict; forMissing = forMissing; forBlocked = forBlocked }
+
+abbrev pub NoRulesOfCalls : List ℕ → List ℕ → List ℕ → List ℕ → List ℕ → Type 0
+NoRulesOfCalls p buffer forConflict forMissing forBlocked = NoRulesInBuffers p (bookBuilt p buffer) forConflict forMissing forBlocked
+
+-- and what build leaves in two buffers is the same exactly where the frames are
+abbrev pub NoRulesShareBuilt : List ℕ → List ℕ → List ℕ → List ℕ → Type 0
+NoRulesShareBuilt p q first second = (bookBuilt p first ≡ bookBuilt q second) ↔ (P.frame p ≡ P.frame q)

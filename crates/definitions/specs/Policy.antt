@@ -1,4 +1,4 @@
--- The policy file p, field by field off its bytes, as document 01's section "Policy file" and request 2 of document 02 have it.
+-- The policy file p, field by field off its bytes, as document 01's section "Policy file" and requests 2 and 5 of document 02 have it.
 use mathlib.Core.Bool.{cond}
 use mathlib.Core.List.{List, _∷_}
 use Prim.Native.Nat.{ℕ, suc, _+_, _-_, _*_, _/_, _%_}
@@ -7,7 +7,7 @@ use lib.ListN.{drop}
 use Rattle.automaton.specs.Below.{foldBelow, listBelow}
 use Rattle.definitions.specs.Bytes.{byte, twoBytes, version, product}
 
--- ---- "1 each: E events 0 to 8; F fields 1 to 4; P variables 0 to 4; R rules 1 to 32"
+-- ---- "1 each: E events 0 to 8; F fields 1 to 4; P variables 0 to 4; R rules", by request 5 "0 to 32"
 abbrev pub events : List ℕ → ℕ
 events p = byte p 5
 

@@ -24,8 +24,9 @@ hasHead p = leb 9 (length p)
 abbrev pub versionHolds : List ℕ → Bool
 versionHolds p = eqb (version p) 1 || eqb (version p) 2
 
+-- "Number 5 now lets R be 0 to 32; its other ranges stand"
 abbrev pub rangesHold : List ℕ → Bool
-rangesHold p = leb (events p) 8 && within 1 (fields p) 4 && leb (variables p) 4 && within 1 (rules p) 32
+rangesHold p = leb (events p) 8 && within 1 (fields p) 4 && leb (variables p) 4 && leb (rules p) 32
 
 abbrev pub lengthHolds : List ℕ → Bool
 lengthHolds p = eqb (length p) (exactLength p)

@@ -13,14 +13,13 @@ use Rattle.definitions.proofs.Tests.{both-true, within-true}
 use Rattle.definitions.proofs.Accepted.{file-accepted, ranges-true, counts-true}
 use Rattle.policy.specs.Sized.{Sized, Passed}
 
-sized-by : (p : List ℕ) → (events p ≤ 8) × (1 ≤ fields p) × (fields p ≤ 4) × (variables p ≤ 4) × (1 ≤ rules p) × (rules p ≤ 32) → length p ≡ exactLength p → Sized p
+sized-by : (p : List ℕ) → (events p ≤ 8) × (1 ≤ fields p) × (fields p ≤ 4) × (variables p ≤ 4) × (rules p ≤ 32) → length p ≡ exactLength p → Sized p
 sized-by p ranges exact = record {
   fewEvents = ranges .0;
   someFields = ranges .1;
   fewFields = ranges .2;
   fewVariables = ranges .3;
-  someRules = ranges .4;
-  fewRules = ranges .5;
+  fewRules = ranges .4;
   exact = exact;
 }
 
@@ -37,7 +36,7 @@ pub passed : (p : List ℕ) → fileRefusal p ≡ 0 → Passed p
 passed p e =
     let file = file-accepted p e in
     record {
-      sized = sized-by p (file .eventsMost, file .fieldsSome, file .fieldsMost, file .variablesMost, file .rulesSome, file .rulesMost) (file .exact);
+      sized = sized-by p (file .eventsMost, file .fieldsSome, file .fieldsMost, file .variablesMost, file .rulesMost) (file .exact);
       counts = both-true
           (all-below (countInRange p) (fields p) (λ f l. within-true 1 (count p f) 16 .1 (file .countSome f l, file .countMost f l)))
           (le-leb (requests p) 64 (file .requestsMost));

@@ -13,7 +13,6 @@ pub record Sized (p : List ℕ) : Type 0 where
   pub someFields : 1 ≤ fields p
   pub fewFields : fields p ≤ 4
   pub fewVariables : variables p ≤ 4
-  pub someRules : 1 ≤ rules p
   pub fewRules : rules p ≤ 32
   pub exact : length p ≡ exactLength p
 

@@ -36,7 +36,7 @@ pub fn ranges_hold(policy: &[u8]) -> bool
     (header::events(policy) <= 8)
         & in_range(1, header::fields(policy), 4)
         & (header::variables(policy) <= 4)
-        & in_range(1, header::rules(policy), 32)
+        & (header::rules(policy) <= 32)
 }
 
 pub fn length_holds(policy: &[u8]) -> bool

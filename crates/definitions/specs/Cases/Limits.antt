@@ -26,14 +26,14 @@ limitCases =
     ∷ number (policyRefusal (set policyA 1 0x50)) 3
     ∷ number (policyRefusal (set policyA 3 1)) 4
     ∷ number (policyRefusal (set policyA 4 3)) 4
-    -- 5: E 0 to 8, F 1 to 4, P 0 to 4, R 1 to 32; what passes is refused for its length
+    -- 5: E 0 to 8, F 1 to 4, P 0 to 4, R 0 to 32; what passes is refused for its length
     ∷ number (policyRefusal (set policyA 5 8)) 6
     ∷ number (policyRefusal (set policyA 5 9)) 5
     ∷ number (policyRefusal (set policyA 6 0)) 5
     ∷ number (policyRefusal (set policyA 6 4)) 6
     ∷ number (policyRefusal (set policyA 7 4)) 6
     ∷ number (policyRefusal (set policyA 7 5)) 5
-    ∷ number (policyRefusal (set policyA 8 0)) 5
+    ∷ number (policyRefusal (set policyA 8 0)) 6
     ∷ number (policyRefusal (set policyA 8 32)) 6
     ∷ number (policyRefusal (set policyA 8 33)) 5
     -- 6: one byte less

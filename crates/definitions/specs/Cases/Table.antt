@@ -12,7 +12,8 @@ use Rattle.definitions.specs.Cases.Calls.{callCases}
 use Rattle.definitions.specs.Cases.Starts.{startCases}
 use Rattle.definitions.specs.Cases.Pages.{pageCases}
 use Rattle.definitions.specs.Cases.Ways.{wayCases}
+use Rattle.definitions.specs.Cases.NoRules.{noRulesCases}
 use Rattle.definitions.specs.Cases.Large.{largeCases}
 
 abbrev pub cases : List Claim
-cases = partCases ++ callCases ++ refusalCases ++ khoumsiCases ++ placeCases ++ documentCases ++ limitCases ++ severalCases ++ startCases ++ pageCases ++ wayCases ++ largeCases
+cases = partCases ++ callCases ++ refusalCases ++ khoumsiCases ++ placeCases ++ documentCases ++ limitCases ++ severalCases ++ startCases ++ pageCases ++ wayCases ++ noRulesCases ++ largeCases

@@ -18,15 +18,12 @@ variables-requires c κs = search needs
 rules-requires : tie.Need-rules-requires
 rules-requires c κs = search needs
 
-in-range-requires-2 : tie.Need-in-range-requires-2
-in-range-requires-2 c κs = search needs
-
 returns : tie.Need-returns
 returns c =
-    let events = c .before .before .before .before .before .events in
-    let fields = c .before .before .before .before .fields in
-    let in-range = c .before .before .before .in-range in
-    rw (events .ensures .0, ← (fields .ensures .0), ← (c .before .before .variables .ensures .0), ← (c .before .rules .ensures .0), ← (in-range .ensures), ← (c .in-range2 .ensures))
+    let events = c .before .before .before .before .events in
+    let fields = c .before .before .before .fields in
+    let in-range = c .before .before .in-range in
+    rw (events .ensures .0, ← (fields .ensures .0), ← (c .before .variables .ensures .0), ← (c .rules .ensures .0), ← (in-range .ensures))
 
 pub ranges-hold-spec : {M : Type 1} → statement M
 ranges-hold-spec =
@@ -37,5 +34,4 @@ ranges-hold-spec =
     in-range-requires
     variables-requires
     rules-requires
-    in-range-requires-2
     returns)
