@@ -1,6 +1,6 @@
 -- The laws of machines: steps and histories, alike states, and states that a history tells apart.
 use mathlib.Core.Path.{_≡_, refl, ap, sym, _∙_}
-use mathlib.Core.Bool.{Bool, true, false, false≢true}
+use mathlib.Core.Bool.{Bool, true, false, true≢false, false≢true}
 use mathlib.Core.Logic.{_⊎_, inl, inr}
 use mathlib.Core.List.{[], _∷_, _++_}
 use Prim.Native.Nat.{ℕ, zero, suc, _≤_, _<_}
@@ -21,6 +21,10 @@ is-state (suc s) l = refl
 pub state-is : (s : ℕ) → isState s ≡ true → 1 ≤ s
 state-is zero p = absurd (false≢true p)
 state-is (suc s) p = omega arith
+
+pub no-state : (s : ℕ) → isState s ≡ false → s ≡ 0
+no-state zero e = refl
+no-state (suc s) e = absurd (true≢false e)
 
 pub step-past : (m : Machine) (s c : ℕ) → m .width ≤ c → step m s c ≡ 0
 step-past m zero c h = refl

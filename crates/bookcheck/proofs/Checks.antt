@@ -9,7 +9,7 @@ use lib.Dec.{eqb}
 use lib.ListN.{length}
 use borrow.Author.Tests.{le-leb, leb-true, eq-eqb, eqb-true}
 use Rattle.automaton.specs.Below.{allBelow}
-use Rattle.automaton.proofs.Below.{and-true}
+use Rattle.automaton.proofs.Below.{same-truth, and-true}
 use Rattle.definitions.specs.Bytes.{byte, hasMark, within}
 use Rattle.definitions.specs.Book.{events, fields, requests, width, states}
 use Rattle.definitions.specs.Refusal.{isMarked, countHolds, layoutHolds}
@@ -17,7 +17,6 @@ use Rattle.definitions.specs.Checked.{BookHeader}
 use Rattle.definitions.proofs.Tests.{both-true}
 use Rattle.definitions.proofs.Accepted.{layout-true}
 use Rattle.bookcheck.specs.Layout.{headerRequests}
-use Rattle.bookcheck.proofs.Entries.{same-truth}
 
 -- ---- row 12: the first five bytes
 abbrev pub start : List ℕ

@@ -9,11 +9,10 @@ use native.Mathlib.Omega.{arith}
 use lib.ListN.{length, replicate, length-replicate, getD-replicate}
 use borrow.Author.Tests.{leb-true, le-leb}
 use Rattle.automaton.specs.Below.{allBelow, listBelow}
-use Rattle.automaton.proofs.Below.{all-below, all-below-at, length-list-below, getD-list-below}
+use Rattle.automaton.proofs.Below.{same-truth, all-below, all-below-at, length-list-below, getD-list-below}
 use Rattle.definitions.specs.Bytes.{byte}
 use Rattle.definitions.specs.Book.{events, width, states}
 use Rattle.bookcheck.specs.Entries.{isPossible, rowPossible, eventsPossible, lesser}
-use Rattle.bookcheck.proofs.Entries.{same-truth}
 
 module _ (b : List ℕ) where
   -- the entry of column c in row i, counted from 0

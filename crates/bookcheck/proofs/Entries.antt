@@ -1,5 +1,5 @@
 -- Row 14 in two tests: the greatest entry is at most n, and every event is possible.
-use mathlib.Core.Path.{_≡_, refl, sym}
+use mathlib.Core.Path.{_≡_, refl}
 use mathlib.Core.Bool.{Bool, true, false}
 use mathlib.Core.Logic.{_⊎_, inl, inr}
 use mathlib.Core.List.{List}
@@ -9,7 +9,7 @@ use native.Mathlib.Decide.{decLt}
 use native.Mathlib.Omega.{arith}
 use lib.ListN.{length}
 use borrow.Author.Tests.{leb-true, le-leb}
-use Rattle.automaton.proofs.Below.{below-suc, all-below, all-below-at}
+use Rattle.automaton.proofs.Below.{same-truth, below-suc, all-below, all-below-at}
 use Rattle.definitions.specs.Bytes.{byte}
 use Rattle.definitions.specs.Book.{events, width, states, entry}
 use Rattle.definitions.specs.Refusal.{entriesHold}
@@ -44,11 +44,6 @@ module _ (b : List ℕ) where
       go (no p) ih = (k, omega arith, omega arith)
 
 -- ---- what the tests say of each entry
-pub same-truth : (a b : Bool) → (a ≡ true → b ≡ true) → (b ≡ true → a ≡ true) → a ≡ b
-same-truth true b f g = sym (f refl)
-same-truth false true f g = g refl
-same-truth false false f g = refl
-
 module _ (b : List ℕ) where
   abbrev Possible : Type 0
   Possible = (s c : ℕ) → 1 ≤ s → s ≤ states b → c < events b → 1 ≤ entry b s c

@@ -1,22 +1,23 @@
 -- A policy without rules: no variable has a bound above 0, so that there is one valuation and one situation; every list of events is possible, and nothing else.
 -- Two with equal frames have the same possible histories and so one book, which has one state. It ends in no-rules-pass, no-rules-right and no-rules-share.
 use mathlib.Core.Path.{_≡_, refl, sym, ap, _∙_, subst}
-use mathlib.Core.Bool.{Bool, true, false, true≢false, false≢true}
+use mathlib.Core.Bool.{true, false, true≢false}
 use mathlib.Core.Logic.{_↔_}
 use mathlib.Core.List.{List, [], _∷_, _++_}
 use mathlib.Core.Option.{Option, none, some}
-use Prim.Native.Nat.{ℕ, zero, suc, _+_, _*_, _^_, _≤_, _<_}
+use Prim.Native.Nat.{ℕ, zero, suc, _+_, _^_, _≤_, _<_}
 use native.Mathlib.Nat.{le-of-suc-le-suc}
 use native.Mathlib.Omega.{arith}
 use native.Mathlib.Decide.{decLt}
-use lib.Dec.{leb, eqb·suc-zero}
+use lib.Dec.{leb}
 use lib.ListN.{length, getD}
 use borrow.Author.Tests.{le-leb}
 use Rattle.automaton.specs.Below.{foldBelow, allBelow}
 use Rattle.automaton.specs.History.{History, Earliest}
 use Rattle.automaton.specs.Machine.{Machine, step, after, isState, possibleFrom, possible, SameHistories}
+use Rattle.automaton.proofs.Below.{is-false, same-truth}
 use Rattle.automaton.proofs.Explore.{reached-few}
-use Rattle.automaton.proofs.Machine.{state-is, is-state, step-within, after-append, possible-state}
+use Rattle.automaton.proofs.Machine.{is-state, no-state, step-within, after-append, possible-state}
 use Rattle.automaton.proofs.Order.{not-later-longer, earliest-unique}
 use Rattle.definitions.specs.Answer.{judge, thenJudge}
 use Rattle.definitions.specs.Bytes.{product}
@@ -27,34 +28,16 @@ use Rattle.definitions.specs.Situation.{startSituation, imageOfSet, poli
 use Rattle.definitions.specs.Book as B
 use Rattle.definitions.specs.Refusal.{rulePasses, ruleMasksHold, masksHold, valuationsHold, fileChecks, fileRefusal, situations, row11, policyRefusal, Accepted}
 use Rattle.definitions.specs.Build.{bookOf}
-use Rattle.definitions.specs.Verdict.{Found, Findings, findings}
+use Rattle.definitions.specs.Verdict.{Found, findings}
 use Rattle.definitions.specs.Demands.{Events, Unanswered, MissingAfter, ConflictAfter, BlockedAfter, FindingIsRight, BlockingIsRight, StateOf, SameAfter, NoRulesPass, nothingAnswered, NoRulesAreRight, NoRulesShareBooks}
 use Rattle.definitions.proofs.Accepted.{file-accepted, policy-accepted}
-use Rattle.definitions.proofs.Tests.{judge-zero}
+use Rattle.definitions.proofs.Tests.{judge-zero, then-judge-last}
 use Rattle.definitions.proofs.CheckLists.{refusal-among, row-not-returned}
 use Rattle.definitions.proofs.Sets.{state-has}
 use Rattle.definitions.proofs.Steps.{step-next, has-request-step, step-below, start-below, start-is-state, after-below, image-of-set-below, event-possible}
 use Rattle.definitions.proofs.BookOf.{built-events, built-requests, built-histories}
 use Rattle.definitions.proofs.BookStates.{states-right}
 use Rattle.definitions.proofs.Demands.{demand2, demand3}
-
--- two tests that hold in the same cases are the same
-same-truth : (a b : Bool) → ((a ≡ true) ↔ (b ≡ true)) → a ≡ b
-same-truth true b h = sym (h .0 refl)
-same-truth false true h = h .1 refl
-same-truth false false h = refl
-
-not-true-false : (a : Bool) → (a ≡ true → ⊥) → a ≡ false
-not-true-false true h = absurd (h refl)
-not-true-false false h = refl
-
-no-state : (s : ℕ) → isState s ≡ false → s ≡ 0
-no-state zero e = refl
-no-state (suc s) e = absurd (true≢false e)
-
-then-judge-last : (n : ℕ) → thenJudge n 0 ≡ n
-then-judge-last zero = refl
-then-judge-last (suc n) = rw (eqb·suc-zero n)
 
 -- lists of events, from their first event on
 events-some : (E c : ℕ) (h : History) → c < E → Events E h → Events E (c ∷ h)
@@ -153,12 +136,12 @@ module _ (p : List ℕ) (none-is : P.rules p ≡ 0) where
       let there = after m (startSituation p) h in
       let now = possible-are-events k in
       let then = possible-events there e (after-below p (startSituation p) (start-below p) h) k in
-      same-truth (possible m k) (possibleFrom m there k) (λ q. then .1 (now .0 q), λ q. now .1 (then .0 q))
+      same-truth (possible m k) (possibleFrom m there k) (λ q. then .1 (now .0 q)) (λ q. now .1 (then .0 q))
       ∙ ap isState (sym (after-append m (startSituation p) h k))
 
   never-answered : (h : History) (c : ℕ) → E ≤ c → possible m (h ++ (c ∷ [])) ≡ false
   never-answered h c l =
-      not-true-false (possible m (h ++ (c ∷ [])))
+      is-false (possible m (h ++ (c ∷ [])))
       (λ e. request-never (after m (startSituation p) h) c l (ap isState (sym (after-append m (startSituation p) h (c ∷ []))) ∙ e))
 
   unanswered : (h : History) (r : ℕ) → Unanswered m E h r
@@ -251,4 +234,4 @@ no-rules-share p q none-first none-second first second =
         let two = possible-are-events q none-second h in
         let events : P.events p ≡ P.events q = ap (λ (frame : List ℕ). getD frame 0 0) frames in
         same-truth (possible (policyMachine p) h) (possible (policyMachine q) h)
-        (λ e. two .1 (subst (λ (n : ℕ). Events n h) events (one .0 e)), λ e. one .1 (subst (λ (n : ℕ). Events n h) (sym events) (two .0 e)))
+        (λ e. two .1 (subst (λ (n : ℕ). Events n h) events (one .0 e))) (λ e. one .1 (subst (λ (n : ℕ). Events n h) (sym events) (two .0 e)))

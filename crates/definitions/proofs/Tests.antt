@@ -38,6 +38,11 @@ then-judge-zero (suc n) later = (λ e. never (rw (eqb·suc-zero n) at e), λ h. 
     never : suc n ≡ 0 → (suc n ≡ 0) × (later ≡ 0)
     never e = absurd (omega arith)
 
+-- where nothing comes after it, the first decides
+pub then-judge-last : (first : ℕ) → thenJudge first 0 ≡ first
+then-judge-last zero = refl
+then-judge-last (suc n) = rw (eqb·suc-zero n)
+
 pub within-true : (low x high : ℕ) → (within low x high ≡ true) ↔ ((low ≤ x) × (x ≤ high))
 within-true low x high = (into, λ h. both-true (le-leb low x (h .0)) (le-leb x high (h .1)))
   where

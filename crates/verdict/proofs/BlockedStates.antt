@@ -10,7 +10,7 @@ use Rattle.automaton.specs.Below.{anyBelow, lowestBelow}
 use Rattle.automaton.specs.History.{History}
 use Rattle.automaton.specs.Machine.{after, isState, possible}
 use Rattle.automaton.specs.Explore.{Reached, firstThat}
-use Rattle.automaton.proofs.Below.{any-below, any-below-at}
+use Rattle.automaton.proofs.Below.{is-false, any-below, any-below-at}
 use Rattle.automaton.proofs.Machine.{after-append}
 use Rattle.automaton.proofs.Separation.{after-within}
 use Rattle.definitions.specs.Answer.{written, historyBytes}
@@ -32,10 +32,6 @@ use Rattle.verdict.specs.SoughtRequests.{someAt, soughtFinding}
 use Rattle.verdict.specs.declared.requests.Sought.the-variants.{Missing}
 use Rattle.verdict.proofs.LowestBelow.{lowest-end}
 use Rattle.verdict.proofs.RequestFindings.{none-found}
-
-is-false : (t : Bool) → (t ≡ true → ⊥) → t ≡ false
-is-false true f = absurd (f refl)
-is-false false f = refl
 
 same-not : (s t : Bool) → (t ≡ true → s ≡ false) → (t ≡ false → s ≡ true) → s ≡ not t
 same-not s true f g = f refl
