@@ -85,30 +85,43 @@ fn lent(random: &mut Random, least: usize) -> Vec<u8> {
         .collect()
 }
 
-/// The kinds of policies, good and damaged, of version 1 and of version 2. Build gets as many of each.
-const POLICIES: [&str; 4] = [
+/// The kinds of policies, good and damaged: of version 1, of version 2, and without rules. Build gets as many of each.
+const POLICIES: [&str; 6] = [
     "policy",
     "damaged-policy",
     "starting-policy",
     "damaged-starting-policy",
+    "no-rules-policy",
+    "damaged-no-rules-policy",
 ];
 
-/// Build, with how many books of version 2 it gave.
+/// Build, with how many books of version 2, and of policies without rules, it gave.
 #[derive(Default)]
 struct Builds {
     build: Tally,
     version_2: u64,
     /// How many of these have a starting value above 0.
     started: u64,
+    no_rules: u64,
+    /// How many of these have variables.
+    idle_variables: u64,
 }
 
 impl Builds {
-    fn note_version(&mut self, policy: &[u8], answer: u64) {
-        if answer.is_multiple_of(256) && policy[4] == 2 {
+    /// Notes the policy of an answer that is a book.
+    fn note_policy(&mut self, policy: &[u8], answer: u64) {
+        if !answer.is_multiple_of(256) {
+            return;
+        }
+        if policy[4] == 2 {
             let first = 9 + usize::from(policy[6]);
             let starts = &policy[first..first + usize::from(policy[7])];
             self.version_2 += 1;
             self.started += u64::from(starts.iter().any(|&start| start > 0));
+        }
+        if policy[8] == 0 {
+            self.no_rules += 1;
+            self.idle_variables += u64::from(policy[7] > 0);
         }
     }
 }
@@ -116,7 +129,7 @@ impl Builds {
 fn builds(count: u64, seed: u64) -> Builds {
     let mut noted = Builds::default();
     for i in seed..seed + count {
-        let kind = POLICIES[(i % 4) as usize];
+        let kind = POLICIES[(i % POLICIES.len() as u64) as usize];
         let policy = generate::one(kind, i).expect("a kind that the generator has");
         let mut random = Random::new(i, "build's buffer");
         let mut given = lent(&mut random, 17_284);
@@ -125,7 +138,7 @@ fn builds(count: u64, seed: u64) -> Builds {
             library::build(&policy, &mut given),
             expected::build(&policy, &mut wanted),
         );
-        noted.note_version(&policy, answers.1);
+        noted.note_policy(&policy, answers.1);
         noted.build.note(
             (answers.0, given),
             (answers.1, wanted),
@@ -135,12 +148,16 @@ fn builds(count: u64, seed: u64) -> Builds {
     noted
 }
 
-/// The book of the policy of a seed, or a foreign or damaged book.
+/// The book of the policy of a seed, with rules or without, or a foreign or damaged book.
 fn some_book(i: u64) -> (&'static str, Vec<u8>) {
-    let kind = match i % 8 {
-        0..=2 => return ("the book of policy", built(&generate::policy(i))),
-        3..=5 => "book",
-        6 => "damaged-book",
+    let kind = match i % 16 {
+        0..=4 => return ("the book of policy", built(&generate::policy(i))),
+        5 => {
+            let book = built(&generate::no_rules_policy(i));
+            return ("the book of no-rules-policy", book);
+        }
+        6..=11 => "book",
+        12 | 13 => "damaged-book",
         _ => "late-finding-book",
     };
     (
@@ -210,20 +227,16 @@ fn of_books(count: u64, seed: u64) -> OfBooks {
     noted
 }
 
-/// Two books: of two related policies, of either version, foreign ones of one frame, ones that differ as late as they can, or faulty ones.
+/// Two books: of two related policies, of either version, with rules or without, foreign ones of one frame, ones that differ as late as they can,
+/// or faulty ones.
 fn some_pair(i: u64) -> (&'static str, Vec<u8>, Vec<u8>) {
-    match i % 8 {
-        0 | 1 => {
-            let (first, second) = generate::policy_pair(i);
-            ("the books of policy-pair", built(&first), built(&second))
-        }
-        2 => {
-            let (first, second) = generate::starting_pair(i);
-            ("the books of starting-pair", built(&first), built(&second))
-        }
-        3 | 4 => pair("pair", generate::book_pair(i)),
-        5 => pair("longest-pair", generate::longest_pair(i)),
-        6 => pair("faulty-pair", generate::faulty_pair(i)),
+    match i % 16 {
+        0..=2 => built_pair("the books of policy-pair", generate::policy_pair(i)),
+        3 => built_pair("the books of no-rules-pair", generate::no_rules_pair(i)),
+        4 | 5 => built_pair("the books of starting-pair", generate::starting_pair(i)),
+        6..=9 => pair("pair", generate::book_pair(i)),
+        10 | 11 => pair("longest-pair", generate::longest_pair(i)),
+        12 | 13 => pair("faulty-pair", generate::faulty_pair(i)),
         _ => {
             let book = generate::book(i);
             ("book, twice,", book.clone(), book)
@@ -233,6 +246,13 @@ fn some_pair(i: u64) -> (&'static str, Vec<u8>, Vec<u8>) {
 
 fn pair(kind: &'static str, books: (Vec<u8>, Vec<u8>)) -> (&'static str, Vec<u8>, Vec<u8>) {
     (kind, books.0, books.1)
+}
+
+fn built_pair(
+    kind: &'static str,
+    policies: (Vec<u8>, Vec<u8>),
+) -> (&'static str, Vec<u8>, Vec<u8>) {
+    (kind, built(&policies.0), built(&policies.1))
 }
 
 fn compares(count: u64, seed: u64) -> Tally {
@@ -292,6 +312,10 @@ fn all_equal(count: u64, seed: u64) -> bool {
     println!(
         "books of version 2: {}; with a starting value above 0: {}",
         builds.version_2, builds.started
+    );
+    println!(
+        "books without rules: {}; with variables: {}",
+        builds.no_rules, builds.idle_variables
     );
     println!("longest difference: {} codes", compare.greatest);
     println!(

@@ -4,6 +4,8 @@
 mod book_damage;
 mod books;
 mod extremes;
+mod no_rules;
+mod no_rules_damage;
 mod plays;
 mod policies;
 mod policy_damage;
@@ -18,6 +20,8 @@ mod variation;
 pub use book_damage::{damaged_book, faulty_pair};
 pub use books::{book, book_pair};
 pub use extremes::{far_pair, late_finding_book, late_outcome_book, longest_pair};
+pub use no_rules::{no_rules_pair, no_rules_policy};
+pub use no_rules_damage::damaged_no_rules_policy;
 pub use plays::play;
 pub use policies::policy;
 pub use policy_damage::damaged_policy;
@@ -29,7 +33,7 @@ pub use strings::{cancelling_strings, equal_strings, one_bit_strings, prefix_str
 pub use variation::policy_pair;
 
 /// The names of the kinds that `one` knows.
-pub const KINDS: [&str; 27] = [
+pub const KINDS: [&str; 31] = [
     "policy",
     "policy-pair-first",
     "policy-pair-second",
@@ -57,6 +61,10 @@ pub const KINDS: [&str; 27] = [
     "cancelling-strings-second",
     "prefix-strings-first",
     "prefix-strings-second",
+    "no-rules-policy",
+    "damaged-no-rules-policy",
+    "no-rules-pair-first",
+    "no-rules-pair-second",
 ];
 
 /// The input of a kind named in `KINDS` for a seed, nothing for another name.
@@ -77,6 +85,8 @@ pub fn one(kind: &str, seed: u64) -> Option<Vec<u8>> {
         "starting-policy" => starting_policy(seed),
         "damaged-starting-policy" => damaged_starting_policy(seed),
         "late-outcome-book" => late_outcome_book(seed),
+        "no-rules-policy" => no_rules_policy(seed),
+        "damaged-no-rules-policy" => damaged_no_rules_policy(seed),
         _ => return None,
     })
 }
@@ -93,6 +103,7 @@ fn two(kind: &str, seed: u64) -> Option<(Vec<u8>, Vec<u8>)> {
         "one-bit-strings" => one_bit_strings(seed),
         "cancelling-strings" => cancelling_strings(seed),
         "prefix-strings" => prefix_strings(seed),
+        "no-rules-pair" => no_rules_pair(seed),
         _ => return None,
     })
 }

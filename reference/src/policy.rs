@@ -85,7 +85,7 @@ pub struct Policy {
     /// For each variable, its starting value as the file gives it, maybe above
     /// the bound; 0 in version 1.
     pub starts: Vec<u8>,
-    /// The rules in the order of the file.
+    /// The rules in the order of the file, maybe none.
     pub rules: Vec<Rule>,
     /// For each event, the change of each variable.
     pub events: Vec<Vec<Change>>,
@@ -189,7 +189,7 @@ fn read_header(bytes: &[u8]) -> Result<Header, Refusal> {
     let legal = header.events <= MOST_EVENTS
         && (1..=MOST_FIELDS).contains(&header.fields)
         && header.variables <= MOST_VARIABLES
-        && (1..=MOST_RULES).contains(&header.rules);
+        && header.rules <= MOST_RULES;
     if legal {
         Ok(header)
     } else {

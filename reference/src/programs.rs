@@ -56,7 +56,7 @@ fn record(policy: &[u8]) -> Vec<u8> {
 }
 
 /// The policies of the table of cases, the examples of the table of refusals,
-/// and generated ones; then those with starting values.
+/// and generated ones; then those with starting values, and those without rules.
 pub fn policies() -> Vec<Vec<u8>> {
     let mut policies: Vec<Vec<u8>> = TABLE.iter().map(|policy| policy.to_vec()).collect();
     policies.extend(EXAMPLES.iter().map(|text| bytes(text)));
@@ -66,6 +66,10 @@ pub fn policies() -> Vec<Vec<u8>> {
     policies.extend(STARTING.iter().map(|text| bytes(text)));
     policies.extend(first_small(generate::starting_policy, 18));
     policies.extend(first_small(generate::damaged_starting_policy, 18));
+    policies.extend(NO_RULES_SAMPLES.iter().map(|policy| policy.to_vec()));
+    policies.extend(NO_RULES.iter().map(|text| bytes(text)));
+    policies.extend(first_small(generate::no_rules_policy, 6));
+    policies.extend(first_small(generate::damaged_no_rules_policy, 6));
     policies
 }
 
@@ -153,4 +157,22 @@ const STARTING: [&str; 3] = [
     "50 4F 4C 00 02 00 01 01 03 02 | 01 | 00 03 01 00 00 01 00 | 00 01 01 00 00 01 01 \
      | 00 03 01 00 01 07 01",
     "50 4F 4C 00 02 00 02 00 01 08 08 | 00 01 00 01 01 00",
+];
+
+const NO_RULES_SAMPLES: [&[u8]; 2] = [
+    include_bytes!("../../samples/norules.policy"),
+    include_bytes!("../../samples/norules-started.policy"),
+];
+
+/// Without rules: the smallest file, and one of 8 events, 64 requests and 4
+/// variables; then the second sample with a byte more, with one rule said in its
+/// header, with a change of 3, and with a start of 64.
+const NO_RULES: [&str; 6] = [
+    "50 4F 4C 00 01 00 01 00 00 01",
+    "50 4F 4C 00 02 08 04 04 00 04 02 04 02 | 3F 00 01 3E | 01 00 00 00 | 02 01 01 02 \
+     | 01 01 01 01 | 01 01 01 01 | 01 01 01 01 | 01 01 01 01 | 01 01 01 01 | 00 00 00 02",
+    "50 4F 4C 00 02 01 01 02 00 03 | 05 3F | 02 01 | 00",
+    "50 4F 4C 00 02 01 01 02 01 03 | 05 3F | 02 01",
+    "50 4F 4C 00 02 01 01 02 00 03 | 05 3F | 02 03",
+    "50 4F 4C 00 02 01 01 02 00 03 | 40 3F | 02 01",
 ];

@@ -7,9 +7,12 @@ use std::fs;
 use std::path::PathBuf;
 use std::process::Command;
 
-use common::{policy_a, policy_e, policy_e_level_1, policy_s, policy_two_counters, with_starts};
-use reference::book;
+use common::{
+    no_rules, no_rules_largest, policy_a, policy_e, policy_e_level_1, policy_s,
+    policy_two_counters, silent_book, with_starts,
+};
 use reference::programs::{case_line, policies, runs};
+use reference::{book, hex};
 
 /// The number that turns a policy down, 0 for one that is accepted.
 fn number(policy: &[u8]) -> u8 {
@@ -50,6 +53,30 @@ fn the_starting_values_are_among_them() {
         .map(|policy| policy[4])
         .collect();
     assert!(versions.into_iter().eq([2]));
+}
+
+#[test]
+fn those_without_rules_come_last() {
+    let policies = policies();
+    let numbers: Vec<u8> = policies[144..]
+        .iter()
+        .map(|policy| number(policy))
+        .collect();
+    assert_eq!(numbers[..8], [0, 0, 0, 0, 6, 6, 9, 17]);
+    assert_eq!(policies[144], no_rules(1, 1, &[3], 0, &[]));
+    assert_eq!(policies[145], no_rules(2, 1, &[3], 2, &[5, 63, 2, 1]));
+    assert_eq!(policies[146], no_rules(1, 0, &[1], 0, &[]));
+    assert_eq!(policies[147], no_rules_largest());
+    // Six generated ones that are accepted, and six damaged ones.
+    assert_eq!((&numbers[8..14], numbers.len()), (&[0; 6][..], 20));
+    for policy in policies[144..].iter().filter(|policy| number(policy) == 0) {
+        assert_eq!(case_line(policy), book_line(&silent_book(policy)));
+    }
+}
+
+/// The line of a book.
+fn book_line(book: &[u8]) -> String {
+    hex::line(book).replace(' ', "") + "\n"
 }
 
 #[test]

@@ -228,7 +228,7 @@ fn generated_books_pass_the_checks() {
 }
 
 /// For each kind of input, a sum over the bytes for the first 40 seeds.
-const SUMS: [(&str, u64); 27] = [
+const SUMS: [(&str, u64); 31] = [
     ("policy", 0xDA23_5E0E_3629_2C1D),
     ("policy-pair-first", 0x3480_96C1_D3A2_B227),
     ("policy-pair-second", 0xCE55_9955_F26C_296D),
@@ -256,6 +256,10 @@ const SUMS: [(&str, u64); 27] = [
     ("cancelling-strings-second", 0x4A4C_587F_5C76_A78F),
     ("prefix-strings-first", 0x994A_6400_B854_42EA),
     ("prefix-strings-second", 0xF97C_78F7_1044_9005),
+    ("no-rules-policy", 0xF09C_61EE_E86B_B413),
+    ("damaged-no-rules-policy", 0x3126_537E_C4CA_669A),
+    ("no-rules-pair-first", 0x2D11_65D5_835F_29FD),
+    ("no-rules-pair-second", 0xC7B4_9001_BD3D_4CEE),
 ];
 
 /// A sum that depends on every byte and on their order (the method called FNV-1a).

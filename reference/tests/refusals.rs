@@ -52,6 +52,14 @@ fn damaged_starting_policies_meet_2_to_11_and_17() {
     assert!(met.into_iter().eq((2..=11).chain([17])));
 }
 
+/// 8, 10 and 11 are about rules.
+#[test]
+fn damaged_policies_without_rules_meet_2_to_7_9_and_17() {
+    let policies = (0..600).map(generate::damaged_no_rules_policy);
+    let met = numbers(policies.map(|policy| book::build(&policy).err()));
+    assert!(met.into_iter().eq((2..=7).chain([9, 17])));
+}
+
 #[test]
 fn damaged_books_meet_12_to_14() {
     let books = (0..300).map(generate::damaged_book);
@@ -88,6 +96,8 @@ fn build_keeps_the_rest_of_its_buffer() {
         generate::damaged_policy,
         generate::starting_policy,
         generate::damaged_starting_policy,
+        generate::no_rules_policy,
+        generate::damaged_no_rules_policy,
     ];
     let policies = (0..150).flat_map(|seed| kinds.map(|kind| kind(seed)));
     for (place, policy) in policies.enumerate() {
@@ -108,7 +118,11 @@ fn build_keeps_the_rest_of_its_buffer() {
 
 #[test]
 fn the_book_does_not_depend_on_the_buffer() {
-    let kinds = [generate::policy, generate::starting_policy];
+    let kinds = [
+        generate::policy,
+        generate::starting_policy,
+        generate::no_rules_policy,
+    ];
     for policy in (0..50).flat_map(|seed| kinds.map(|kind| kind(seed))) {
         let [mut first, mut second] = [3, 200].map(|mark| lent(entry::BUILD_BUFFER, mark));
         if let Ok(length) = entry::build(&policy, &mut first) {

@@ -63,11 +63,11 @@ fn rows_2_to_4() {
 
 #[test]
 fn row_5() {
-    for (place, outside) in [(5, 9), (6, 0), (6, 5), (7, 5), (8, 0), (8, 33), (5, 255)] {
+    for (place, outside) in [(5, 9), (6, 0), (6, 5), (7, 5), (8, 33), (8, 255), (5, 255)] {
         assert_eq!(refused(&with_byte(&policy_a(), place, outside)), Some(5));
     }
     // Within the ranges the length is what is wrong next.
-    for (place, inside) in [(5, 8), (6, 4), (7, 4), (8, 32)] {
+    for (place, inside) in [(5, 8), (6, 4), (7, 4), (8, 0), (8, 32)] {
         assert_eq!(refused(&with_byte(&policy_a(), place, inside)), Some(6));
     }
 }

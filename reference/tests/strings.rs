@@ -1,26 +1,13 @@
 //! Generated pairs of byte strings: each is what its kind says, and every sort of
 //! length, content and place occurs.
 
-use std::collections::BTreeMap;
+#[path = "common/met.rs"]
+mod met;
 
+use met::Met;
 use reference::book;
 use reference::compare::equal_bytes;
 use reference::generate::{cancelling_strings, equal_strings, one_bit_strings, prefix_strings};
-
-/// How often each sort was met.
-#[derive(Default)]
-struct Met(BTreeMap<String, usize>);
-
-impl Met {
-    fn note(&mut self, sort: &str, is_met: bool) {
-        *self.0.entry(sort.to_string()).or_default() += usize::from(is_met);
-    }
-
-    fn each_more_than(&self, count: usize) {
-        let rare: Vec<_> = self.0.iter().filter(|(_, &met)| met <= count).collect();
-        assert!(rare.is_empty(), "{rare:?}");
-    }
-}
 
 /// The places at which two strings of one length differ.
 fn different_places(first: &[u8], second: &[u8]) -> Vec<usize> {

@@ -1,4 +1,5 @@
-//! Policies that are usually accepted, of many shapes, of version 1.
+//! Policies that are usually accepted, of many shapes, of version 1, with at
+//! least one rule.
 
 use super::random::Random;
 use super::shape::{

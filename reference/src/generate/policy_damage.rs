@@ -109,11 +109,11 @@ fn damage_inside(bytes: &mut [u8], places: &Places, random: &mut Random) {
     }
 }
 
-/// A size just outside its range, or any byte.
+/// A size just outside its range, 0 for the number of rules, or any byte.
 fn damage_sizes(bytes: &mut [u8], random: &mut Random) {
-    let (place, outside) = *random.pick(&[(5, 9), (6, 0), (6, 5), (7, 5), (8, 0), (8, 33)]);
+    let (place, wrong) = *random.pick(&[(5, 9), (6, 0), (6, 5), (7, 5), (8, 0), (8, 33)]);
     bytes[place] = if random.chance(3, 4) {
-        outside
+        wrong
     } else {
         random.byte()
     };
@@ -172,7 +172,8 @@ pub(super) fn with_many_valuations(mut policy: Policy, random: &mut Random) -> P
     policy
 }
 
-/// One of the four sizes just outside its range, while the length fits it.
+/// One of the four sizes just outside its range, while the length fits it. Of
+/// six files one has no rules instead, which is legal.
 pub(super) fn with_size_outside(mut policy: Policy, random: &mut Random) -> Policy {
     match random.below(6) {
         0 => {

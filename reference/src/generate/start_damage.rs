@@ -85,7 +85,7 @@ fn with_start_outside(policy: &Policy, random: &mut Random) -> Vec<u8> {
 }
 
 /// A starting value just above 63 or far above it, or any byte, or 63.
-fn damage_start(bytes: &mut [u8], places: &Places, random: &mut Random) {
+pub(super) fn damage_start(bytes: &mut [u8], places: &Places, random: &mut Random) {
     if places.starts.is_empty() {
         return;
     }

@@ -14,7 +14,8 @@ pub fn policy_pair(seed: u64) -> (Vec<u8>, Vec<u8>) {
     (write(&first), write(&second))
 }
 
-/// Another policy of the same frame, often with the same book.
+/// Another policy of the frame of this one, which has a rule; often with the
+/// same book.
 pub(super) fn vary(policy: &Policy, random: &mut Random) -> Policy {
     let mut varied = policy.clone();
     let place = random.below(varied.rules.len());

@@ -112,6 +112,46 @@ pub fn policy_two_counters(first: u8, second: u8) -> Vec<u8> {
     .concat()
 }
 
+/// Four fields of together 64 requests.
+pub const FOUR: [u8; 4] = [4, 2, 4, 2];
+
+/// Starting values of four variables.
+pub const FOUR_STARTS: [u8; 4] = [63, 0, 1, 62];
+
+/// A policy without rules; what comes last are the starting values of version 2
+/// and the changes of the events.
+pub fn no_rules(version: u8, events: u8, counts: &[u8], variables: u8, rest: &[u8]) -> Vec<u8> {
+    let sizes = [events, counts.len() as u8, variables, 0];
+    [b"POL\0", &[version][..], &sizes, counts, rest].concat()
+}
+
+/// A policy without rules, of one event, three requests and two variables.
+pub fn no_rules_changing() -> Vec<u8> {
+    no_rules(1, 1, &[3], 2, &[2, 1])
+}
+
+/// The changes of eight events with four variables.
+pub fn no_rules_changes() -> Vec<u8> {
+    [&[1, 0, 0, 0, 2, 1, 1, 2][..], &[1; 20], &[0, 0, 0, 2]].concat()
+}
+
+/// A policy without rules, of eight events, 64 requests and four variables.
+pub fn no_rules_largest() -> Vec<u8> {
+    let rest = [&FOUR_STARTS[..], &no_rules_changes()].concat();
+    no_rules(2, 8, &FOUR, 4, &rest)
+}
+
+/// The book that a policy without rules has, straight from the sizes and counts
+/// in its file: one state, which every event leads to, and no answer.
+pub fn silent_book(policy: &[u8]) -> Vec<u8> {
+    let (events, fields) = (policy[5] as usize, policy[6] as usize);
+    let counts = &policy[9..9 + fields];
+    let absent = vec![0; 4 - fields];
+    let head = [&b"BOK\0\x01"[..], &policy[5..7], counts, &absent, &[1]].concat();
+    let answers = vec![0; 2 * requests(&head)];
+    [head, vec![1; events], answers].concat()
+}
+
 /// The book of a policy that is accepted.
 pub fn book_of(policy: &[u8]) -> Book {
     build(policy).expect("an accepted policy")
