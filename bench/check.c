@@ -22,8 +22,8 @@ static void push(struct bytes *out, unsigned byte) { out->at[out->length++] = (u
 
 static void draw_policy(struct bytes *p)
 {
-    unsigned events = below(9), fields = 1 + below(4), variables = below(5), rules = 1 + below(below(2) ? 32 : 6), count[4], bound[4];
-    unsigned version = 1 + below(2);
+    unsigned events = below(9), fields = 1 + below(4), variables = below(5), count[4], bound[4];
+    unsigned version = 1 + below(2), rules = below(8) == 0 ? 0 : 1 + below(below(2) ? 32 : 6);
     memcpy(p->at, "POL\0", p->length = 4);
     push(p, version), push(p, events), push(p, fields), push(p, variables), push(p, rules);
     for (unsigned f = 0, left = 64; f < fields; f++, left /= count[f - 1])
@@ -78,13 +78,14 @@ static void same(int holds, const char *call, uint64_t input)
     exit(1);
 }
 
-static void check_build(uint64_t input, struct bytes *book)
+/* Draws a policy and builds its book, of length 0 if it has none. */
+static void check_build(uint64_t input, struct bytes *policy, struct bytes *book)
 {
-    static struct bytes policy, other;
-    draw_policy(&policy);
+    static struct bytes other;
+    draw_policy(policy);
     memset(book->at, 0xA5, sizeof book->at);
     memset(other.at, 0xA5, sizeof other.at);
-    uint64_t one = policybook_build(policy.at, policy.length, book->at, BOOK_ROOM), two = plain_build(policy.at, policy.length, other.at, BOOK_ROOM);
+    uint64_t one = policybook_build(policy->at, policy->length, book->at, BOOK_ROOM), two = plain_build(policy->at, policy->length, other.at, BOOK_ROOM);
     same(one == two && memcmp(book->at, other.at, BOOK_ROOM) == 0, "build", input);
     book->length = one / 256;
 }
@@ -146,13 +147,14 @@ static void check_same_bytes(uint64_t input, const struct bytes *first, const st
 
 int main(int argc, char **argv)
 {
-    static struct bytes first, second;
+    static struct bytes policy, first, second;
     unsigned long count = argc > 1 ? strtoul(argv[1], NULL, 10) : 20000, seed = argc > 2 ? strtoul(argv[2], NULL, 10) : 1;
-    unsigned long built = 0, longest = 0;
+    unsigned long built = 0, without_rules = 0, longest = 0;
     for (unsigned long i = seed; i < seed + count; i++) {
         state = i * 0xD1342543DE82EF95u;
-        check_build(i, &first);
+        check_build(i, &policy, &first);
         built += first.length != 0;
+        without_rules += first.length != 0 && policy.at[8] == 0;
         if (first.length != 0 && first.at[11] > longest)
             longest = first.at[11];
         if (below(2) || first.length == 0)
@@ -165,6 +167,7 @@ int main(int argc, char **argv)
         check_compare(i, &first, &second);
         check_same_bytes(i, &first, &second);
     }
-    printf("plain C answers as the library on %lu inputs of each call; %lu of the policies have a book, of up to %lu states\n", count, built, longest);
+    printf("plain C answers as the library on %lu inputs of each call; %lu of the policies, %lu of them without rules, have a book, of up to %lu states\n", count,
+           built, without_rules, longest);
     return 0;
 }

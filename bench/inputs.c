@@ -51,6 +51,15 @@ void forty_states_started(struct bytes *policy)
     put(policy, plain.at + 11, plain.length - 11);
 }
 
+void no_rules(struct bytes *policy)
+{
+    policy->length = 0;
+    PUT(policy, 'P', 'O', 'L', 0, 2, 8, 4, 4, 0, 4, 4, 2, 2);
+    PUT(policy, 0, 1, 62, 63); /* the starting values */
+    for (unsigned i = 0; i < 8 * 4; i++)
+        PUT(policy, (uint8_t)(i % 3));
+}
+
 void many_states(struct bytes *policy, unsigned top, unsigned events, unsigned high, unsigned low, unsigned rules)
 {
     unsigned half = (1u << high / 2) - 1;

@@ -22,6 +22,9 @@ void forty_states(struct bytes *policy);
 /* The same as a file of version 2, in which two openings and three copies have been counted before the first step. */
 void forty_states_started(struct bytes *policy);
 
+/* The longest policy without rules: version 2, 8 events, 4 fields with 64 requests, 4 variables; one situation, one state, 136 codes. */
+void no_rules(struct bytes *policy);
+
 /*
  * 2 × top + 1 situations and as many states, for top from 2 to 63: the sets {k} and {k, k + 1}. Requests have two fields, of `high` values (an even
  * number) and of `low`; `events` is how many events there are, `rules` how many rules, 5 or more.

@@ -50,8 +50,8 @@ static void take_book(struct job *j)
     memcpy(j->first.at, j->written.book, j->first.length);
 }
 
-/* All jobs of a policy: its book, the verdict on it, a way sought in vain (no policy leaves request 0 unanswered), its page, and the book beside itself and beside
- * one with a late difference. */
+/* All jobs of a policy that never leaves request 0 unanswered: its book, the verdict on it, a way to request 0 unanswered, sought in vain, its page, and the book
+ * beside itself and beside one with a late difference. */
 static void policy_rows(const char *input, struct job *j)
 {
     row("build", input, measure_build, j);
@@ -133,6 +133,10 @@ static void print_jobs(struct job *j)
     policy_rows("40 states", j);
     forty_states_started(&j->policy);
     row("build", "40 states, version 2", measure_build, j);
+    no_rules(&j->policy);
+    row("build", "no rules, 136 codes", measure_build, j);
+    take_book(j);
+    row("verdict", "no rules, 136 codes", measure_verdict, j);
     many_states(&j->policy, 63, 8, 16, 4, 5);
     policy_rows("127 states, 136 codes", j);
     book_rows("books 127 × 136", j);

@@ -15,8 +15,7 @@ static unsigned read_frame(const uint8_t *bytes, size_t length, struct policy *p
     p->fields = bytes[6];
     p->variables = bytes[7];
     p->rules = bytes[8];
-    if (p->events > MOST_EVENTS || p->fields < 1 || p->fields > MOST_FIELDS || p->variables > MOST_VARIABLES || p->rules < 1
-        || p->rules > MOST_RULES)
+    if (p->events > MOST_EVENTS || p->fields < 1 || p->fields > MOST_FIELDS || p->variables > MOST_VARIABLES || p->rules > MOST_RULES)
         return 5;
     p->starts = bytes[4] == 2 ? p->variables : 0;
     if (length != 9 + p->fields + p->starts + p->rules * (2 * p->fields + 2 + 3 * p->variables) + p->events * p->variables)

@@ -6,6 +6,7 @@
  *   answers compare BOOK BOOK          same, or the earliest history possible in just one
  *   answers page FILE                  the page of the book of a policy, or of a book, told apart by their marks
  *   answers way FILE REQUEST OUTCOME   the earliest history to an outcome of a request, of a policy or a book likewise
+ *   answers                            each line of standard input in place of the words above; `$` and the line come first, on both outputs
  * A refusal is the line `refused N`, with its meaning on standard error. Exit status: 0 for every answer, 2 for bad usage or files.
  */
 #include <stdio.h>
@@ -179,15 +180,36 @@ static int with_way(const char *name, const char *request_digits, const char *ou
     return status;
 }
 
-int main(int argc, char **argv)
+/* The answer to a command and its arguments. The exit status. */
+static int answer(int count, char **words)
 {
-    const char *command = argc > 1 ? argv[1] : "";
-    if (argc == 4 && strcmp(command, "build") == 0) return with_policy(argv[2], argv[3]);
-    if (argc == 3 && strcmp(command, "shelf") == 0) return with_policy(argv[2], NULL);
-    if (argc == 3 && strcmp(command, "verdict") == 0) return with_books(argv[2], NULL);
-    if (argc == 4 && strcmp(command, "compare") == 0) return with_books(argv[2], argv[3]);
-    if (argc == 3 && strcmp(command, "page") == 0) return with_page(argv[2]);
-    if (argc == 5 && strcmp(command, "way") == 0) return with_way(argv[2], argv[3], argv[4]);
+    const char *command = count > 0 ? words[0] : "";
+    if (count == 3 && strcmp(command, "build") == 0) return with_policy(words[1], words[2]);
+    if (count == 2 && strcmp(command, "shelf") == 0) return with_policy(words[1], NULL);
+    if (count == 2 && strcmp(command, "verdict") == 0) return with_books(words[1], NULL);
+    if (count == 3 && strcmp(command, "compare") == 0) return with_books(words[1], words[2]);
+    if (count == 2 && strcmp(command, "page") == 0) return with_page(words[1]);
+    if (count == 4 && strcmp(command, "way") == 0) return with_way(words[1], words[2], words[3]);
     fprintf(stderr, "usage: answers build POLICY OUT | shelf POLICY | verdict BOOK | compare BOOK BOOK | page FILE | way FILE REQUEST OUTCOME\n");
     return 2;
 }
+
+/* Answers the lines of standard input, words that are one blank apart. The greatest exit status. */
+static int answer_lines(void)
+{
+    enum { MOST_WORDS = 5 }; /* one more than any command has */
+    char line[1000];
+    int greatest = 0;
+    while (fgets(line, sizeof line, stdin) != NULL) {
+        char *words[MOST_WORDS];
+        int count = 0;
+        printf("$ %s", line);
+        fprintf(stderr, "$ %s", line);
+        for (char *word = strtok(line, " \n"); word != NULL && count < MOST_WORDS; word = strtok(NULL, " \n")) words[count++] = word;
+        int status = answer(count, words);
+        if (status > greatest) greatest = status;
+    }
+    return greatest;
+}
+
+int main(int argc, char **argv) { return argc > 1 ? answer(argc - 1, argv + 1) : answer_lines(); }

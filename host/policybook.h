@@ -2,8 +2,9 @@
  * policybook.h: building, judging and comparing policy books, writing their pages, finding ways in them and telling equal bytes, for C99 and
  * later and for C++.
  *
- * A policy file holds access rules. Its book is a table that says, after every history of events and decided requests, which steps are
- * possible next. A step is one byte, its code; a history is a list of codes. docs/FORMATS.md describes policies, books and codes byte by byte.
+ * A policy file holds access rules, 0 to 32 of them. Its book is a table that says, after every history of events and decided requests, which
+ * steps are possible next. A step is one byte, its code; a history is a list of codes. docs/FORMATS.md describes policies, books and codes byte
+ * by byte.
  *
  *     uint8_t book[POLICYBOOK_BOOK_SIZE];
  *     uint64_t answer = policybook_build(policy, policy_length, book, sizeof book);
@@ -57,12 +58,12 @@ enum policybook_refusal {
     POLICYBOOK_SHORT_POLICY = 2,      /* the policy has under 9 bytes (2 to 11 and 17: build) */
     POLICYBOOK_POLICY_MARK = 3,       /* its mark is not POL */
     POLICYBOOK_POLICY_VERSION = 4,    /* its version is neither 1 nor 2 */
-    POLICYBOOK_POLICY_RANGE = 5,      /* events are over 8, fields not 1 to 4, variables over 4, or rules not 1 to 32 */
+    POLICYBOOK_POLICY_RANGE = 5,      /* events are over 8, fields not 1 to 4, variables over 4, or rules over 32 */
     POLICYBOOK_POLICY_LENGTH = 6,     /* its length does not follow from its version and those four numbers */
     POLICYBOOK_VALUE_COUNT = 7,       /* a value count is outside 1 to 16, or there are over 64 requests */
     POLICYBOOK_START = 17,            /* a starting value is above 63 (version 2) */
     POLICYBOOK_MASK = 8,              /* a mask has no bit set, or one at or above its field's count */
-    POLICYBOOK_RULE_VALUE = 9,        /* a decision, test or change is outside its values */
+    POLICYBOOK_RULE_VALUE = 9,        /* a decision, test or change of a rule, or a change of an event, is outside its values */
     POLICYBOOK_VALUATIONS = 10,       /* there are over 64 valuations of the variables */
     POLICYBOOK_SITUATIONS = 11,       /* over 127 situations are reached */
     POLICYBOOK_BOOK_HEADER = 12,      /* the book has under 12 bytes, or another mark or version (12 to 14: verdict, compare, page, way) */
@@ -84,6 +85,10 @@ enum policybook_outcome {
 /*
  * Builds the book of a policy into book, which has room for POLICYBOOK_BOOK_SIZE bytes.
  * Refused with 1 to 11 or 17. Else the value is the book's length; bytes after the book stay.
+ *
+ * A policy may have no rules; then it answers nothing. Its book has one state, to which every event leads and in which no request is accepted or
+ * rejected, so that verdict finds request 0 missing and the book blocked, both with a history of length 0. Two such policies with the same events
+ * and value counts have equal books, whatever their variables are.
  */
 uint64_t policybook_build(const uint8_t *policy, size_t policy_len, uint8_t *book, size_t book_len);
 

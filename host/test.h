@@ -19,10 +19,22 @@ extern const uint8_t book_e[27], book_g[20];
 enum { STATES = 127, WIDTH = 128 };
 struct bytes full_book(void);
 
+/*
+ * Each makes a call with buffers of these sizes, all bytes FILLED, and checks the answer, and that a buffer begins with the bytes given and else has
+ * stayed. Verdict has three buffers and gives its answer; the lengths say with how many bytes of the history each begins. Equal bytes is asked in both orders.
+ */
+void expect_build(struct bytes policy, size_t size, uint64_t wanted, const uint8_t *bytes, size_t length);
+uint64_t expect_verdict(struct bytes book, const size_t size[3], const uint8_t *history, const size_t length[3]);
+void expect_compare(struct bytes first, struct bytes second, size_t size, uint64_t wanted, const uint8_t *history, size_t length);
+void expect_page(struct bytes book, size_t size, uint64_t wanted, const char *lines, size_t length);
+void expect_way(struct bytes book, size_t request, size_t outcome, size_t size, uint64_t wanted, const uint8_t *history, size_t length);
+void expect_same(struct bytes first, struct bytes second, uint64_t wanted);
+
 /* The tests, a file each. */
 void test_building(void);
 void test_judging(void);
 void test_ways(void);
 void test_same_bytes(void);
+void test_no_rules(void);
 
 #endif

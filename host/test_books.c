@@ -10,8 +10,7 @@
 /* Two states and two events; nothing is ever answered, so request 0 is missing and the book blocked at the start. */
 static const uint8_t book_silent[] = { 0x42, 0x4F, 0x4B, 0x00, 0x01, 0x02, 0x01, 0x01, 0x00, 0x00, 0x00, 0x02, 2, 1, 0, 0, 1, 2, 0, 0 };
 
-/* Verdict of a book with buffers of these sizes; the answer, and the three buffers: how many bytes of history each begins with. */
-static uint64_t expect_verdict(struct bytes book, const size_t size[3], const uint8_t *history, const size_t length[3])
+uint64_t expect_verdict(struct bytes book, const size_t size[3], const uint8_t *history, const size_t length[3])
 {
     uint8_t *buffer[3] = { lent_buffer(size[0], FILLED), lent_buffer(size[1], FILLED), lent_buffer(size[2], FILLED) };
     uint64_t answer = policybook_verdict(book.data, book.length, buffer[0], size[0], buffer[1], size[1], buffer[2], size[2]);
@@ -64,7 +63,7 @@ static void test_verdict_refused(void)
     free(empty.data);
 }
 
-static void expect_compare(struct bytes first, struct bytes second, size_t size, uint64_t wanted, const uint8_t *history, size_t length)
+void expect_compare(struct bytes first, struct bytes second, size_t size, uint64_t wanted, const uint8_t *history, size_t length)
 {
     uint8_t *buffer = lent_buffer(size, FILLED);
     CHECK(policybook_compare(first.data, first.length, second.data, second.length, buffer, size) == wanted);
@@ -97,7 +96,7 @@ static void test_compare(void)
 /* The 62 columns of a page beyond two requests. */
 #define BLANKS "                                                              "
 
-static void expect_page(struct bytes book, size_t size, uint64_t wanted, const char *lines, size_t length)
+void expect_page(struct bytes book, size_t size, uint64_t wanted, const char *lines, size_t length)
 {
     uint8_t *buffer = lent_buffer(size, FILLED);
     CHECK(policybook_page(book.data, book.length, buffer, size) == wanted);

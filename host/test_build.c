@@ -24,8 +24,7 @@ static const uint8_t book_e_started[] = {
     0x02, 0x01, 0x01, 0x00, 0x01, 0x02, 0x02, 0x00, 0x03, 0x00, 0x02, 0x03, 0x00, 0x01, 0x00,
 };
 
-/* Calls build with a buffer of this size; the answer, and whether the buffer begins with these bytes and else has stayed. */
-static void expect_build(struct bytes policy, size_t size, uint64_t wanted, const uint8_t *bytes, size_t length)
+void expect_build(struct bytes policy, size_t size, uint64_t wanted, const uint8_t *bytes, size_t length)
 {
     uint8_t *buffer = lent_buffer(size, FILLED);
     CHECK(policybook_build(policy.data, policy.length, buffer, size) == wanted);

@@ -32,8 +32,7 @@ static int is_as_made(struct bytes string)
     return i == string.length;
 }
 
-/* In both orders. */
-static void expect_same(struct bytes first, struct bytes second, uint64_t wanted)
+void expect_same(struct bytes first, struct bytes second, uint64_t wanted)
 {
     CHECK(policybook_same_bytes(first.data, first.length, second.data, second.length) == wanted);
     CHECK(policybook_same_bytes(second.data, second.length, first.data, first.length) == wanted);

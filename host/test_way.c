@@ -5,8 +5,7 @@
 
 #include "policybook.h"
 
-/* Calls way with a buffer of this size; the answer, and whether the buffer begins with this history and else has stayed. */
-static void expect_way(struct bytes book, size_t request, size_t outcome, size_t size, uint64_t wanted, const uint8_t *history, size_t length)
+void expect_way(struct bytes book, size_t request, size_t outcome, size_t size, uint64_t wanted, const uint8_t *history, size_t length)
 {
     uint8_t *buffer = lent_buffer(size, FILLED);
     CHECK(policybook_way(book.data, book.length, request, outcome, buffer, size) == wanted);
