@@ -1,4 +1,4 @@
-//! The nine lessons: a policy each, and what the error makes of it.
+//! The ten lessons: a policy each, and what the error makes of it.
 
 use reference::policy::{Change, Rule};
 
@@ -46,7 +46,7 @@ impl Lesson {
 }
 
 /// The lessons in the order of the guide.
-pub fn lessons() -> [Lesson; 9] {
+pub fn lessons() -> [Lesson; 10] {
     [
         each_rule_alone(),
         shut_door(),
@@ -57,6 +57,7 @@ pub fn lessons() -> [Lesson; 9] {
         bound(),
         both_decisions(),
         first_day(),
+        no_rules(),
     ]
 }
 
@@ -219,4 +220,28 @@ fn first_day() -> Lesson {
             ],
         ),
     )
+}
+
+/// A gift without rules, beside one of which everything is rejected.
+fn no_rules() -> Lesson {
+    let names = ["view", "list", "copy"];
+    let rejecting = vec![rule(&[0, 1, 2], false, 0)];
+    Lesson::new(
+        "no-rules",
+        daily(&names, &[], Vec::new()),
+        Mistaken::Policy(
+            daily(&names, &[], rejecting),
+            ["without rules only", "with the rule only"],
+        ),
+    )
+}
+
+/// A gift without rules for which counters are prepared, with starting values and
+/// with what midnight does to them.
+pub fn no_rules_started() -> Table {
+    let mut table = no_rules().table;
+    table.variables = vec!["copies", "warnings"];
+    table.policy.variables = 2;
+    table.policy.events = vec![vec![Change::SetToZero, Change::AddOne]];
+    table.beginning_at(&[5, 63])
 }

@@ -1,4 +1,4 @@
-//! The guide. For rule writers and trainers: nine errors, each with a policy, its
+//! The guide. For rule writers and trainers: ten errors, each with a policy, its
 //! book, the book that the error gives, and the earliest history that shows it.
 //! For the file room: how to read the page of a book, and the yearly inventory.
 //! For trainers: exercises with their answers.

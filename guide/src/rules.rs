@@ -107,6 +107,24 @@ impl Table {
     /// The rules as a Markdown table, a line for each event, and one for the
     /// starting values where the file carries them.
     pub fn markdown(&self) -> String {
+        let mut text = match self.policy.rules.is_empty() {
+            true => format!("No rules. The requests are {}.\n", self.requests.join(", ")),
+            false => self.rules_in_rows(),
+        };
+        for (event, changes) in self.policy.events.iter().enumerate() {
+            text.push_str(&format!(
+                "\nAt {}: {}.\n",
+                self.events[event],
+                self.changed(changes)
+            ));
+        }
+        if self.policy.version == Version::Two {
+            text.push_str(&format!("\nAt the start: {}.\n", self.starts()));
+        }
+        text
+    }
+
+    fn rules_in_rows(&self) -> String {
         let mut text =
             "| rule | request | when | decision | level | change |\n|---|---|---|---|---|---|\n"
                 .to_string();
@@ -120,16 +138,6 @@ impl Table {
                 rule.level,
                 self.changed(&rule.changes)
             ));
-        }
-        for (event, changes) in self.policy.events.iter().enumerate() {
-            text.push_str(&format!(
-                "\nAt {}: {}.\n",
-                self.events[event],
-                self.changed(changes)
-            ));
-        }
-        if self.policy.version == Version::Two {
-            text.push_str(&format!("\nAt the start: {}.\n", self.starts()));
         }
         text
     }

@@ -2,17 +2,25 @@
 //! with one book, and unlike books with the same histories.
 
 use guide::files::{book_of, files_of};
-use guide::inventory::{inventory_files, of_inventory, two_copies_by_levels};
-use guide::lessons::lessons;
+use guide::inventory::{inventory_files, of_inventory, tables};
+use guide::lessons::{lessons, no_rules_started};
 use guide::pages::examples;
 use reference::compare::{compare_books, Comparison};
 use reference::policy;
 
 #[test]
 fn two_policies_with_one_book() {
-    let (one, other) = (&lessons()[5].table, two_copies_by_levels());
-    assert_eq!(book_of(one).to_bytes(), book_of(&other).to_bytes());
-    assert_ne!(policy::write(&one.policy), policy::write(&other.policy));
+    for (lesson, (_, other)) in [5, 9].into_iter().zip(tables()) {
+        let one = &lessons()[lesson].table;
+        assert_eq!(book_of(one).to_bytes(), book_of(&other).to_bytes());
+        assert_ne!(policy::write(&one.policy), policy::write(&other.policy));
+    }
+}
+
+#[test]
+fn the_one_without_rules_is_a_sample() {
+    let sample = include_bytes!("../../samples/norules-started.policy");
+    assert_eq!(policy::write(&no_rules_started().policy), sample);
 }
 
 #[test]

@@ -1,5 +1,6 @@
 //! The mistaken methods are right but for their one error, and the lessons that
-//! stand for document 01's cases and for the file of version 2 are the samples.
+//! stand for document 01's cases, for the file of version 2 and for the one
+//! without rules are the samples.
 
 use guide::files::{book_of, earliest};
 use guide::lessons::lessons;
@@ -32,7 +33,7 @@ fn without_an_error_the_method_gives_the_book() {
 #[test]
 fn each_error_is_shown_by_its_own_lesson() {
     let shown: Vec<Vec<u8>> = lessons().iter().map(earliest).collect();
-    let expected: [&[u8]; 9] = [
+    let expected: [&[u8]; 10] = [
         &[3, 3, 2],
         &[3, 3, 1],
         &[1, 3],
@@ -42,6 +43,7 @@ fn each_error_is_shown_by_its_own_lesson() {
         &[3, 4, 4, 1],
         &[1, 1],
         &[3],
+        &[2],
     ];
     assert_eq!(shown, expected);
 }
@@ -58,8 +60,8 @@ fn an_error_changes_nothing_where_it_cannot_matter() {
 }
 
 #[test]
-fn four_lessons_are_samples() {
-    for (lesson, case) in [(0, "e"), (4, "h"), (5, "a"), (8, "started")] {
+fn five_lessons_are_samples() {
+    for (lesson, case) in [(0, "e"), (4, "h"), (5, "a"), (8, "started"), (9, "norules")] {
         let sample = format!("{}/../samples/{case}.policy", env!("CARGO_MANIFEST_DIR"));
         let sample = std::fs::read(sample).expect("a sample");
         let table = &lessons()[lesson].table;
