@@ -18,7 +18,7 @@ use Rattle.definitions.specs.Build.{bookOf, buildRefusal, buildAnswer, b
 use Rattle.definitions.specs.Verdict.{Findings, findings, verdictRefusal, verdictAnswer, verdictBuffers}
 use Rattle.definitions.specs.Compare.{sameBytes, comparison, compareRefusal, compareAnswer, compareBuffer}
 use Rattle.definitions.specs.Way.{way, wayRefusal, wayAnswer, wayBuffer}
-use Rattle.definitions.specs.Demands.{bookIn, bookBuilt, buffersWith, JudgedInBuffers, Demand2OfCalls, BooksInBuffers, Demand3OfCalls, WayInBuffer, WayOfCalls, SameBytesOfCalls, nothingAnswered, NoRulesInBuffers, NoRulesOfCalls, NoRulesShareBuilt}
+use Rattle.definitions.specs.Demands.{bookIn, bookBuilt, buffersWith, JudgedInBuffers, Demand2OfCalls, BooksInBuffers, Demand3OfCalls, WayInBuffer, WayOfCalls, SameBytesOfCalls, NoRulesInBuffers, NoRulesOfCalls, NoRulesShareBuilt}
 use Rattle.definitions.proofs.Answers.{given-answer, given-buffer}
 use Rattle.definitions.proofs.Written.{take-written}
 use Rattle.definitions.proofs.BookOf.{built-passes, built-events, built-requests, frames-same}

@@ -1,16 +1,17 @@
 -- A policy without rules: no variable has a bound above 0, so that there is one valuation and one situation; every list of events is possible, and nothing else.
 -- Two with equal frames have the same possible histories and so one book, which has one state. It ends in no-rules-pass, no-rules-right and no-rules-share.
-use mathlib.Core.Path.{_≡_, refl, sym, ap, _∙_, subst}
+use mathlib.Core.Path.{_≡_, refl, sym, ap, ap₂, _∙_, subst}
 use mathlib.Core.Bool.{true, false, true≢false}
 use mathlib.Core.Logic.{_↔_}
 use mathlib.Core.List.{List, [], _∷_, _++_}
 use mathlib.Core.Option.{Option, none, some}
-use Prim.Native.Nat.{ℕ, zero, suc, _+_, _^_, _≤_, _<_}
-use native.Mathlib.Nat.{le-of-suc-le-suc}
+use Prim.Native.Nat.{ℕ, zero, suc, _+_, _*_, _^_, _≤_, _<_}
+use native.Mathlib.Nat.{not-suc-le-zero, le-of-suc-le-suc}
 use native.Mathlib.Omega.{arith}
 use native.Mathlib.Decide.{decLt}
 use lib.Dec.{leb}
-use lib.ListN.{length, getD}
+use lib.ListN.{length, getD, replicate, length-append, length-replicate}
+use lib.Seq.{ext-getD}
 use borrow.Author.Tests.{le-leb}
 use Rattle.automaton.specs.Below.{foldBelow, allBelow}
 use Rattle.automaton.specs.History.{History, Earliest}
@@ -19,6 +20,7 @@ use Rattle.automaton.proofs.Below.{is-false, same-truth}
 use Rattle.automaton.proofs.Explore.{reached-few}
 use Rattle.automaton.proofs.Machine.{is-state, no-state, step-within, after-append, possible-state}
 use Rattle.automaton.proofs.Order.{not-later-longer, earliest-unique}
+use Rattle.automaton.proofs.WellFormed.{step-entry}
 use Rattle.definitions.specs.Answer.{judge, thenJudge}
 use Rattle.definitions.specs.Bytes.{product}
 use Rattle.definitions.specs.Policy as P
@@ -27,15 +29,15 @@ use Rattle.definitions.specs.Valuation.{greatestTested, bound, valuesOf,
 use Rattle.definitions.specs.Situation.{startSituation, imageOfSet, policyMachine}
 use Rattle.definitions.specs.Book as B
 use Rattle.definitions.specs.Refusal.{rulePasses, ruleMasksHold, masksHold, valuationsHold, fileChecks, fileRefusal, situations, row11, policyRefusal, Accepted}
-use Rattle.definitions.specs.Build.{bookOf}
+use Rattle.definitions.specs.Build.{bookRows, bookOf}
 use Rattle.definitions.specs.Verdict.{Found, findings}
-use Rattle.definitions.specs.Demands.{Events, Unanswered, MissingAfter, ConflictAfter, BlockedAfter, FindingIsRight, BlockingIsRight, StateOf, SameAfter, NoRulesPass, nothingAnswered, NoRulesAreRight, NoRulesShareBooks}
+use Rattle.definitions.specs.Demands.{Events, Unanswered, MissingAfter, ConflictAfter, BlockedAfter, FindingIsRight, BlockingIsRight, LeadsTo, StateOf, SameAfter, NoRulesPass, nothingAnswered, eventsRow, NoRulesAreRight, NoRulesShareBooks}
 use Rattle.definitions.proofs.Accepted.{file-accepted, policy-accepted}
 use Rattle.definitions.proofs.Tests.{judge-zero, then-judge-last}
 use Rattle.definitions.proofs.CheckLists.{refusal-among, row-not-returned}
 use Rattle.definitions.proofs.Sets.{state-has}
 use Rattle.definitions.proofs.Steps.{step-next, has-request-step, step-below, start-below, start-is-state, after-below, image-of-set-below, event-possible}
-use Rattle.definitions.proofs.BookOf.{built-events, built-requests, built-histories}
+use Rattle.definitions.proofs.BookOf.{rows-tidy, built-states, built-after, built-histories}
 use Rattle.definitions.proofs.BookStates.{states-right}
 use Rattle.definitions.proofs.Demands.{demand2, demand3}
 
@@ -46,6 +48,30 @@ events-some E c h l all (suc i) within = all i (le-of-suc-le-suc within)
 
 events-rest : (E c : ℕ) (h : History) → Events E (c ∷ h) → Events E h
 events-rest E c h all i within = all (suc i) (omega arith)
+
+-- the row of the one state, by its places
+row-length : (E Q : ℕ) → length (eventsRow E Q) ≡ E + 2 * Q
+row-length E Q = length-append (replicate E 1) (replicate (2 * Q) 0) ∙ ap₂ _+_ (length-replicate {A = ℕ} E 1) (length-replicate {A = ℕ} (2 * Q) 0)
+
+event-at : (E Q c : ℕ) → c < E → getD (eventsRow E Q) c 0 ≡ 1
+event-at zero Q c l = absurd (not-suc-le-zero l)
+event-at (suc E) Q zero l = refl
+event-at (suc E) Q (suc c) l = event-at E Q c (le-of-suc-le-suc l)
+
+zero-at : (n c : ℕ) → getD (replicate {A = ℕ} n 0) c 0 ≡ 0
+zero-at zero c = refl
+zero-at (suc n) zero = refl
+zero-at (suc n) (suc c) = zero-at n c
+
+request-at : (E Q c : ℕ) → E ≤ c → getD (eventsRow E Q) c 0 ≡ 0
+request-at zero Q c l = zero-at (2 * Q) c
+request-at (suc E) Q zero l = absurd (not-suc-le-zero l)
+request-at (suc E) Q (suc c) l = request-at E Q c (le-of-suc-le-suc l)
+
+single : {A : Type 0} (xs : List A) (d : A) → length xs ≡ 1 → xs ≡ getD xs 0 d ∷ []
+single [] d e = absurd (omega arith)
+single (x ∷ []) d e = refl
+single (x ∷ y ∷ xs) d e = absurd (omega arith)
 
 module _ (p : List ℕ) (none-is : P.rules p ≡ 0) where
   abbrev m : Machine
@@ -186,22 +212,40 @@ module _ (p : List ℕ) (none-is : P.rules p ≡ 0) where
         let here : possible m h ≡ true = sym (built-histories p accepted h) ∙ ap isState leads ∙ is-state s (l .0) in
         sym (states-right p accepted .joined [] h .1 (same-after h here) ∙ leads)
 
-    width-is : B.width b ≡ P.width p
-    width-is = rw (built-events p accepted, built-requests p accepted)
+    states-one : B.states b ≡ 1
+    states-one = one-state (B.states b) (demand2 p accepted .states .0, omega arith)
 
-    -- what a code leads to is the entry
-    entry-is : (c : ℕ) → c < P.width p → after (B.bookMachine b) 1 (c ∷ []) ≡ B.entry b 1 c
-    entry-is c l = step-next (B.bookMachine b) 1 c refl (rw width-is l)
-
-    event-entry : (e : ℕ) → e < E → B.entry b 1 e ≡ 1
-    event-entry e l =
+    event-leads : (e : ℕ) → e < E → LeadsTo (B.bookMachine b) 1 (e ∷ [])
+    event-leads e l =
         let alone : Events E (e ∷ []) = events-some E e [] l (λ i within. absurd (omega arith)) in
-        sym (entry-is e (omega arith)) ∙ one-state (after (B.bookMachine b) 1 (e ∷ [])) (states-right p accepted .led (e ∷ []) (possible-are-events (e ∷ []) .1 alone))
+        one-state (after (B.bookMachine b) 1 (e ∷ [])) (states-right p accepted .led (e ∷ []) (possible-are-events (e ∷ []) .1 alone))
 
-    request-entry : (c : ℕ) → E ≤ c → c < P.width p → B.entry b 1 c ≡ 0
-    request-entry c l within =
-        sym (entry-is c within)
-        ∙ no-state (after (B.bookMachine b) 1 (c ∷ [])) (built-histories p accepted (c ∷ []) ∙ never-answered [] c l)
+    request-impossible : (c : ℕ) → E ≤ c → possible (B.bookMachine b) (c ∷ []) ≡ false
+    request-impossible c l = built-histories p accepted (c ∷ []) ∙ never-answered [] c l
+
+    -- the one row, entry by entry
+    abbrev row : List ℕ
+    row = getD (bookRows p) 0 []
+
+    row-entry : (c : ℕ) → getD row c 0 ≡ after (B.bookMachine b) 1 (c ∷ [])
+    row-entry c = sym (built-after p accepted (c ∷ []) ∙ step-entry (P.width p) (bookRows p) (rows-tidy p accepted .isTable) 1 c)
+
+    row-is : row ≡ eventsRow E (P.requests p)
+    row-is =
+        ext-getD 0 row (eventsRow E (P.requests p))
+        (rows-tidy p accepted .isTable .wide 0 (rows-tidy p accepted .isTable .some) ∙ sym (row-length E (P.requests p)))
+        (λ c l. row-entry c ∙ go c (decLt c E))
+      where
+        go : (c : ℕ) → Dec (c < E) → after (B.bookMachine b) 1 (c ∷ []) ≡ getD (eventsRow E (P.requests p)) c 0
+        go c (yes l) = event-leads c l ∙ sym (event-at E (P.requests p) c l)
+        go c (no n) =
+            no-state (after (B.bookMachine b) 1 (c ∷ [])) (request-impossible c (omega arith)) ∙ sym (request-at E (P.requests p) c (omega arith))
+
+    bytes-are : b ≡ B.bookBytes (P.frame p) (eventsRow E (P.requests p) ∷ [])
+    unfolding bookOf
+    bytes-are =
+        let one : length (bookRows p) ≡ 1 = sym (built-states p accepted) ∙ states-one in
+        ap (B.bookBytes (P.frame p)) (single (bookRows p) [] one ∙ ap (λ (r : List ℕ). r ∷ []) row-is)
 
     findings-are : findings b ≡ nothingAnswered
     findings-are =
@@ -216,9 +260,10 @@ module _ (p : List ℕ) (none-is : P.rules p ≡ 0) where
     pub no-rules-right : NoRulesAreRight p b
     no-rules-right = record {
       histories = possible-are-events;
-      one = one-state (B.states b) (demand2 p accepted .states .0, omega arith);
-      events = event-entry;
-      requests = request-entry;
+      one = states-one;
+      events = event-leads;
+      requests = request-impossible;
+      bytes = bytes-are;
       findings = findings-are;
     }
 

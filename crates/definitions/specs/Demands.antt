@@ -8,7 +8,7 @@ use mathlib.Core.Logic.{_↔_}
 use mathlib.Core.List.{List, [], _∷_, _++_}
 use mathlib.Core.Option.{Option, none, some}
 use Prim.Native.Nat.{ℕ, _+_, _-_, _*_, _≤_, _<_, min}
-use lib.ListN.{length, getD, take, drop}
+use lib.ListN.{length, getD, take, drop, replicate}
 use Rattle.automaton.specs.History.{History, Earlier, Earliest}
 use Rattle.automaton.specs.Machine.{Machine, after, possible, DistinctStates, SameHistories, inOne}
 use Rattle.definitions.specs.Policy as P
@@ -307,15 +307,21 @@ NoRulesPass p = (policyRefusal p ≡ 8 → ⊥) × (policyRefusal p ≡ 10 → �
 abbrev pub nothingAnswered : Findings
 nothingAnswered = record { conflict = none; missing = some (record { request = 0; history = [] }); blocked = some [] }
 
+-- the row of a state in which each of E events leads to state 1, and none of Q requests is possible
+abbrev pub eventsRow : ℕ → ℕ → List ℕ
+eventsRow E Q = replicate E 1 ++ replicate (2 * Q) 0
+
 -- of its book b, where the policy is accepted
 pub record NoRulesAreRight (p b : List ℕ) : Type 0 where
   -- "a policy that answers nothing": the possible histories are the lists of events
   pub histories : (h : History) → (possible (policyMachine p) h ≡ true) ↔ Events (P.events p) h
   -- "Its book has one state whose events lead to itself"
   pub one : B.states b ≡ 1
-  pub events : (e : ℕ) → e < P.events p → B.entry b 1 e ≡ 1
+  pub events : (e : ℕ) → e < P.events p → LeadsTo (B.bookMachine b) 1 (e ∷ [])
   -- and no request is possible
-  pub requests : (c : ℕ) → P.events p ≤ c → c < P.width p → B.entry b 1 c ≡ 0
+  pub requests : (c : ℕ) → P.events p ≤ c → possible (B.bookMachine b) (c ∷ []) ≡ false
+  -- byte for byte
+  pub bytes : b ≡ B.bookBytes (P.frame p) (eventsRow (P.events p) (P.requests p) ∷ [])
   pub findings : findings b ≡ nothingAnswered
 
 -- "Two such policies of equal frame have equal books whatever their variables are", and equal books only then

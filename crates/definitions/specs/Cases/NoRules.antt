@@ -1,7 +1,7 @@
 -- Request 5: policies without rules. What the request does not say was computed by the reference.
 use mathlib.Core.List.{List, [], _∷_, _++_}
 use mathlib.Core.Option.{none, some}
-use Prim.Native.Nat.{ℕ, _*_}
+use Prim.Native.Nat.{ℕ}
 use lib.ListN.{length, set, take, replicate}
 use Rattle.definitions.specs.Answer.{given}
 use Rattle.definitions.specs.Book.{bookBytes}
@@ -12,6 +12,7 @@ use Rattle.definitions.specs.Compare.{comparison}
 use Rattle.definitions.specs.Shelf.{shelfText}
 use Rattle.definitions.specs.Page.{page}
 use Rattle.definitions.specs.Way.{way}
+use Rattle.definitions.specs.Demands.{eventsRow}
 use Rattle.definitions.specs.Cases.Claim.{Claim, number, bytes, found, history, builds}
 use Rattle.definitions.specs.Cases.Samples.{policy, ruleOf, lent, missingAndBlockedAfter}
 use Rattle.definitions.specs.Cases.Places.{numbersWith}
@@ -22,7 +23,7 @@ noRules version E counts P rest = 0x50 ∷ 0x4F ∷ 0x4C ∷ 0 ∷ version ∷ E
 
 -- the book of one state in which each of E events leads to itself, and no request is possible
 abbrev eventsOnly : ℕ → ℕ → List ℕ → ℕ → List ℕ
-eventsOnly E F counts Q = bookBytes (E ∷ F ∷ counts) ((replicate E 1 ++ replicate (2 * Q) 0) ∷ [])
+eventsOnly E F counts Q = bookBytes (E ∷ F ∷ counts) (eventsRow E Q ∷ [])
 
 -- one event and three requests; the same with two variables, of version 1, and of version 2 with their starting values
 abbrev plain : List ℕ
