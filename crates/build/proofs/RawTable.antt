@@ -3,7 +3,7 @@
 use mathlib.Core.Path.{_≡_, refl, sym, ap, _∙_, subst}
 use mathlib.Core.Bool.{Bool, cond, true, false}
 use mathlib.Core.List.{List, [], _∷_, _++_}
-use Prim.Native.Nat.{ℕ, suc, _+_, _-_, _*_, _<_, _≤_}
+use Prim.Native.Nat.{ℕ, suc, min, _+_, _-_, _*_, _<_, _≤_}
 use native.Mathlib.Omega.{arith}
 use native.Mathlib.Nat.{mul-le-mul-right}
 use native.Mathlib.Decide.{decLt}
@@ -24,7 +24,7 @@ use Rattle.definitions.specs.Book.{concat}
 use Rattle.definitions.specs.Refusal.{situations}
 use Rattle.explore.specs.SetImages.{imagesMachine}
 use Rattle.images.specs.Images.{ImagesOf}
-use Rattle.explore.specs.Reaches.{allReached, Reaches}
+use Rattle.explore.specs.Reaches.{allReached, RowsFit, Reaches}
 use Rattle.definitions.specs.Rows.{rowsIn, TableIn}
 use Rattle.definitions.proofs.Steps.{start-is-state}
 use Rattle.definitions.proofs.Written.{length-written}
@@ -58,7 +58,7 @@ module _ (m : Machine) (begins : isState (m .start) ≡ true) where
   reached-ordered = table-ordered m 127 begins
 
   -- what exploring leaves
-  module _ {found raw : List ℕ} {n : ℕ} {found′ raw′ : List ℕ} (long : 127 * m .width ≤ length raw) (reaches : Reaches m found raw n found′ raw′) where
+  module _ {found raw : List ℕ} {n : ℕ} {found′ raw′ : List ℕ} (long : RowsFit m (length raw)) (reaches : Reaches m found raw n found′ raw′) where
     explored-over : n ≡ 0 → 127 < length (allReached m)
     explored-over e = go (leb (length (allReached m)) 127) refl
       where
@@ -89,7 +89,9 @@ module _ (m : Machine) (begins : isState (m .start) ≡ true) where
       size = length-concat (m .width) rows (table-wide m (allReached m)) ∙ ap (λ (k : ℕ). k * m .width) count
 
       fits : n * m .width ≤ length raw
-      fits = omega (arith, mul-le-mul-right (m .width) (explored-count .1))
+      fits =
+          let low : n ≤ min 127 (length (allReached m)) = omega (arith, explored-count) in
+          omega (arith, long, mul-le-mul-right (m .width) low)
 
       explored-rows : rowsIn raw′ n (m .width) ≡ rows
       explored-rows =
@@ -133,7 +135,11 @@ module _ (p images : List ℕ) (are : ImagesOf p images) where
   unfolding allReached situations
   situations-are = reached-policy p images are 127
 
-  module _ {found raw : List ℕ} {n : ℕ} {found′ raw′ : List ℕ} (long : 127 * width p ≤ length raw) (reaches : Reaches m found raw n found′ raw′) where
+  -- room for the rows of the situations is room for those of the machine
+  pub situations-fit : (room : ℕ) → min 127 (length (situations p)) * width p ≤ room → RowsFit m room
+  situations-fit room fits = rw situations-are fits
+
+  module _ {found raw : List ℕ} {n : ℕ} {found′ raw′ : List ℕ} (long : RowsFit m (length raw)) (reaches : Reaches m found raw n found′ raw′) where
     pub situations-over : n ≡ 0 → 127 < length (situations p)
     situations-over e = rw situations-are at (explored-over m (start-is-state p) long reaches e)
 

@@ -13,7 +13,7 @@ ghost use Rattle.definitions.specs.Book.{bookBytes};
 ghost use Rattle.definitions.specs.Build.{buildAnswer, buildBuffer};
 ghost use Rattle.definitions.specs.Rows.{rowsIn, TableIn};
 ghost use Rattle.build.specs.BuiltAnswer.{builtAnswer};
-ghost use Rattle.build.specs.Buildable.{Buildable};
+ghost use Rattle.build.specs.Buildable.{RoomFor, Buildable};
 use automaton::wide;
 use policy::shape::Shape;
 use situation::Situation;
@@ -72,7 +72,7 @@ fn build_in(
     raw: &mut [u8],
 ) -> Built
     requires { ⌜ Buildable (now policy) shape (now book) ⌝ }
-    requires { ⌜ (shape .valuations * shape .width ≤ length (now images)) × (127 * shape .width ≤ length (now raw)) ⌝ }
+    requires { ⌜ RoomFor (now policy) shape (length (now images)) (length (now raw)) ⌝ }
     ensures { λ r. ⌜ builtAnswer r ≡ buildAnswer (now (policy .entry)) (now (book .entry)) ⌝ }
     ensures { λ r. ⌜ now (book .exit) ≡ buildBuffer (now (policy .entry)) (now (book .entry)) ⌝ }
 {
@@ -87,9 +87,9 @@ fn build_in(
     Built::Written(write_book(book, policy, raw, n, w))
 }
 
-// The same, with room for every policy. The size of an array is a constant, so that each size has a function of its own.
+// The same, with room for every policy. The size of an array is a constant, so that each size has a function of its own; smaller arrays are cleared faster.
 fn build_wide(policy: &[u8], shape: Shape, book: &mut [u8]) -> Built
-    requires { ⌜ Buildable (now policy) shape (now book) ⌝ }
+    requires { ⌜ Buildable (now policy) shape (now book) × RoomFor (now policy) shape 8704 17272 ⌝ }
     ensures { λ r. ⌜ builtAnswer r ≡ buildAnswer (now (policy .entry)) (now (book .entry)) ⌝ }
     ensures { λ r. ⌜ now (book .exit) ≡ buildBuffer (now (policy .entry)) (now (book .entry)) ⌝ }
 {
@@ -98,9 +98,9 @@ fn build_wide(policy: &[u8], shape: Shape, book: &mut [u8]) -> Built
     build_in(policy, shape, book, &mut images, &mut raw)
 }
 
-// The same for a policy of at most 32 codes: smaller arrays are cleared faster.
+// The same for a policy of at most 32 codes.
 fn build_narrow(policy: &[u8], shape: Shape, book: &mut [u8]) -> Built
-    requires { ⌜ Buildable (now policy) shape (now book) × (shape .width ≤ 32) ⌝ }
+    requires { ⌜ Buildable (now policy) shape (now book) × RoomFor (now policy) shape 2048 4064 ⌝ }
     ensures { λ r. ⌜ builtAnswer r ≡ buildAnswer (now (policy .entry)) (now (book .entry)) ⌝ }
     ensures { λ r. ⌜ now (book .exit) ≡ buildBuffer (now (policy .entry)) (now (book .entry)) ⌝ }
 {
@@ -111,7 +111,7 @@ fn build_narrow(policy: &[u8], shape: Shape, book: &mut [u8]) -> Built
 
 // The same where the images are few as well.
 fn build_small(policy: &[u8], shape: Shape, book: &mut [u8]) -> Built
-    requires { ⌜ Buildable (now policy) shape (now book) × (shape .width ≤ 32) × (shape .valuations * shape .width ≤ 512) ⌝ }
+    requires { ⌜ Buildable (now policy) shape (now book) × RoomFor (now policy) shape 512 4064 ⌝ }
     ensures { λ r. ⌜ builtAnswer r ≡ buildAnswer (now (policy .entry)) (now (book .entry)) ⌝ }
     ensures { λ r. ⌜ now (book .exit) ≡ buildBuffer (now (policy .entry)) (now (book .entry)) ⌝ }
 {
@@ -120,12 +120,37 @@ fn build_small(policy: &[u8], shape: Shape, book: &mut [u8]) -> Built
     build_in(policy, shape, book, &mut images, &mut raw)
 }
 
-// With the room that the policy's numbers ask for.
-fn build_sized(policy: &[u8], shape: Shape, book: &mut [u8]) -> Built
+// The same for at most 3 valuations, as where there are no rules: they have at most 7 sets that are not empty, so that there are at most 7 situations.
+fn build_few(policy: &[u8], shape: Shape, book: &mut [u8]) -> Built
+    requires { ⌜ Buildable (now policy) shape (now book) × RoomFor (now policy) shape 408 952 ⌝ }
+    ensures { λ r. ⌜ builtAnswer r ≡ buildAnswer (now (policy .entry)) (now (book .entry)) ⌝ }
+    ensures { λ r. ⌜ now (book .exit) ≡ buildBuffer (now (policy .entry)) (now (book .entry)) ⌝ }
+{
+    let mut images = [0u64; 408];
+    let mut raw = [0u8; 952];
+    build_in(policy, shape, book, &mut images, &mut raw)
+}
+
+// The same for at most 8 codes and 64 images.
+fn build_tiny(policy: &[u8], shape: Shape, book: &mut [u8]) -> Built
+    requires { ⌜ Buildable (now policy) shape (now book) × RoomFor (now policy) shape 64 1016 ⌝ }
+    ensures { λ r. ⌜ builtAnswer r ≡ buildAnswer (now (policy .entry)) (now (book .entry)) ⌝ }
+    ensures { λ r. ⌜ now (book .exit) ≡ buildBuffer (now (policy .entry)) (now (book .entry)) ⌝ }
+{
+    let mut images = [0u64; 64];
+    let mut raw = [0u8; 1016];
+    build_in(policy, shape, book, &mut images, &mut raw)
+}
+
+// With the room that the policy's numbers ask for, where the least is not enough.
+fn build_larger(policy: &[u8], shape: Shape, book: &mut [u8]) -> Built
     requires { ⌜ Buildable (now policy) shape (now book) ⌝ }
     ensures { λ r. ⌜ builtAnswer r ≡ buildAnswer (now (policy .entry)) (now (book .entry)) ⌝ }
     ensures { λ r. ⌜ now (book .exit) ≡ buildBuffer (now (policy .entry)) (now (book .entry)) ⌝ }
 {
+    if shape.valuations <= 3 {
+        return build_few(policy, shape, book);
+    }
     if 32 < shape.width {
         return build_wide(policy, shape, book);
     }
@@ -133,6 +158,21 @@ fn build_sized(policy: &[u8], shape: Shape, book: &mut [u8]) -> Built
         return build_narrow(policy, shape, book);
     }
     build_small(policy, shape, book)
+}
+
+// With the room that the policy's numbers ask for.
+fn build_sized(policy: &[u8], shape: Shape, book: &mut [u8]) -> Built
+    requires { ⌜ Buildable (now policy) shape (now book) ⌝ }
+    ensures { λ r. ⌜ builtAnswer r ≡ buildAnswer (now (policy .entry)) (now (book .entry)) ⌝ }
+    ensures { λ r. ⌜ now (book .exit) ≡ buildBuffer (now (policy .entry)) (now (book .entry)) ⌝ }
+{
+    if 8 < shape.width {
+        return build_larger(policy, shape, book);
+    }
+    if 64 < shape.valuations * shape.width {
+        return build_larger(policy, shape, book);
+    }
+    build_tiny(policy, shape, book)
 }
 
 // The book of a policy, in the first bytes of the buffer; the bytes after it are unchanged. A refusal leaves the whole buffer as it was.

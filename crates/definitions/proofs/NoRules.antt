@@ -17,7 +17,6 @@ use Rattle.automaton.specs.Below.{foldBelow, allBelow}
 use Rattle.automaton.specs.History.{History, Earliest}
 use Rattle.automaton.specs.Machine.{Machine, step, after, isState, possibleFrom, possible, SameHistories}
 use Rattle.automaton.proofs.Below.{is-false, same-truth}
-use Rattle.automaton.proofs.Explore.{reached-few}
 use Rattle.automaton.proofs.Machine.{is-state, no-state, step-within, after-append, possible-state}
 use Rattle.automaton.proofs.Order.{not-later-longer, earliest-unique}
 use Rattle.automaton.proofs.WellFormed.{step-entry}
@@ -36,7 +35,7 @@ use Rattle.definitions.proofs.Accepted.{file-accepted, policy-accepted}
 use Rattle.definitions.proofs.Tests.{judge-zero, then-judge-last}
 use Rattle.definitions.proofs.CheckLists.{refusal-among, row-not-returned}
 use Rattle.definitions.proofs.Sets.{state-has}
-use Rattle.definitions.proofs.Steps.{step-next, has-request-step, step-below, start-below, start-is-state, after-below, image-of-set-below, event-possible}
+use Rattle.definitions.proofs.Steps.{step-next, has-request-step, step-below, start-below, start-is-state, situations-few, after-below, image-of-set-below, event-possible}
 use Rattle.definitions.proofs.BookOf.{rows-tidy, built-states, built-after, built-histories}
 use Rattle.definitions.proofs.BookStates.{states-right}
 use Rattle.definitions.proofs.Demands.{demand2, demand3}
@@ -91,13 +90,8 @@ module _ (p : List ℕ) (none-is : P.rules p ≡ 0) where
   one-valuation : valuations p ≡ 1
   one-valuation = product-one (P.variables p)
 
-  situation-most : (set : ℕ) → set < 2 ^ valuations p → set ≤ 1
-  situation-most set l = omega (arith, subst (λ (n : ℕ). set < 2 ^ n) one-valuation l)
-
-  pub situations-few : length (situations p) ≤ 1
-  unfolding situations
-  situations-few =
-      reached-few m 127 (start-is-state p) 1 (λ set c. situation-most (step m set c) (step-below p set c)) (situation-most (startSituation p) (start-below p))
+  one-situation : length (situations p) ≤ 1
+  one-situation = omega (arith, subst (λ (n : ℕ). length (situations p) < 2 ^ n) one-valuation (situations-few p))
 
   -- ---- refusals
   masks-hold : masksHold p ≡ true
@@ -111,7 +105,7 @@ module _ (p : List ℕ) (none-is : P.rules p ≡ 0) where
 
   row11-passes : row11 p ≡ 0
   unfolding row11
-  row11-passes = few-pass (length (situations p)) situations-few
+  row11-passes = few-pass (length (situations p)) one-situation
 
   refusal-of-file : policyRefusal p ≡ fileRefusal p
   unfolding policyRefusal

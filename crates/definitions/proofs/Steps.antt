@@ -1,23 +1,26 @@
--- The meaning of steps: which rules apply, which valuations a code leads to from a set of valuations, and that sets stay sets of valuations. An event
--- leads from every situation to a situation.
+-- The meaning of steps: which rules apply, which valuations a code leads to from a set of valuations, and that sets stay sets of valuations, so that few
+-- valuations have few situations. An event leads from every situation to a situation.
 use mathlib.Core.Path.{_≡_, refl, sym, _∙_}
 use mathlib.Core.Bool.{Bool, true, false, not, true≢false, false≢true}
 use mathlib.Core.Logic.{_↔_, _⊎_, inl, inr}
 use mathlib.Core.List.{List}
-use Prim.Native.Nat.{ℕ, zero, suc, _^_, _≤_, _<_}
+use Prim.Native.Nat.{ℕ, zero, suc, _-_, _^_, _≤_, _<_}
 use native.Mathlib.Omega.{arith}
 use native.Mathlib.Decide.{decLt}
 use lib.Dec.{leb, ltb, eqb}
+use lib.ListN.{length}
 use lib.Pow.{pow-lt, pow-pos}
 use borrow.Author.Tests.{leb-true, ltb-true, ltb-false, eqb-true, not-true, le-leb, lt-ltb, le-ltb, eq-eqb}
 use Rattle.automaton.specs.History.{History}
 use Rattle.automaton.specs.Machine.{Machine, step, after, isState}
 use Rattle.automaton.proofs.Below.{and-true, all-below, all-below-at, any-below, any-below-at}
+use Rattle.automaton.proofs.Explore.{reached-few}
 use Rattle.automaton.proofs.Machine.{step-past, after-keeps}
 use Rattle.definitions.specs.Policy.{events, fields, variables, rules, width, rule, mask, decision, level, ge, lt, change, eventChange, value}
 use Rattle.definitions.specs.Valuation.{valuations, startValuation, variableIn, byRule, byEvent}
 use Rattle.definitions.specs.Situation.{maskLets, letsThrough, isBelow, testPasses, enabled, fits, outranks, outranked, applies, startSituation, decides, requestImage, image, imageOfSet, policyMachine}
 use Rattle.definitions.specs.Codes.{requestOf, decisionOf}
+use Rattle.definitions.specs.Refusal.{situations}
 use Rattle.definitions.specs.Bytes.{bit}
 use Rattle.definitions.proofs.Tests.{both-true}
 use Rattle.definitions.proofs.Valuations.{start-valuation-below, carried-out-below}
@@ -195,6 +198,16 @@ module _ (p : List ℕ) where
   -- every history leads to a set of valuations
   pub after-below : (set : ℕ) → set < 2 ^ valuations p → (h : History) → after (policyMachine p) set h < 2 ^ valuations p
   after-below = after-keeps (policyMachine p) (λ set. set < 2 ^ valuations p) step-below
+
+  -- fewer situations are reached than there are sets of valuations, since the empty one is none
+  pub situations-few : length (situations p) < 2 ^ valuations p
+  unfolding situations
+  situations-few =
+      below-all (length (situations p)) (2 ^ valuations p) (pow-pos (valuations p))
+      (reached-few (policyMachine p) 127 start-is-state (2 ^ valuations p - 1) (λ set c. omega (arith, step-below set c)) (omega (arith, start-below)))
+    where
+      below-all : (n all : ℕ) → 1 ≤ all → n ≤ all - 1 → n < all
+      below-all n all some l = omega arith
 
   -- an event is possible in every situation
   pub event-possible : (set c : ℕ) → isState set ≡ true → set < 2 ^ valuations p → c < events p → isState (step (policyMachine p) set c) ≡ true

@@ -2,7 +2,7 @@
 use mathlib.Core.Path.{_≡_, sym, ap, _∙_}
 use mathlib.Core.Bool.{true}
 use mathlib.Core.List.{List, [], _∷_}
-use Prim.Native.Nat.{ℕ, _+_, _-_, _*_, _<_, _≤_}
+use Prim.Native.Nat.{ℕ, min, _+_, _-_, _*_, _<_, _≤_}
 use native.Mathlib.Omega.{arith}
 use native.Mathlib.Nat.{zero-add, mul-le-mul-right}
 use lib.ListN.{length, getD, take, drop, set, length-set}
@@ -28,12 +28,12 @@ use Rattle.automaton.proofs.Loops.{row-within}
 -- s states have been visited, n are found, and the rows of those visited are written
 pub record StatesReached (m : Machine) (L : List Reached) (found₀ raw₀ found raw : List ℕ) (n s : ℕ) : Type 0 where
   pub room : 128 ≤ length found₀
-  pub long : 127 * m .width ≤ length raw₀
+  pub long : min 127 (length L) * m .width ≤ length raw₀
   pub search : Searched m 127 L found₀ found n s
   pub once : Once (take n found)
   pub rows : raw ≡ laid 0 (take s (table m L)) raw₀
 
-pub reached-begun : (m : Machine) (L : List Reached) (found raw : List ℕ) → 128 ≤ length found → 127 * m .width ≤ length raw
+pub reached-begun : (m : Machine) (L : List Reached) (found raw : List ℕ) → 128 ≤ length found → min 127 (length L) * m .width ≤ length raw
     → reached m 127 ≡ L → isState (m .start) ≡ true → Sound m L → StatesReached m L (set found 0 (m .start)) raw (set found 0 (m .start)) raw 1 0
 reached-begun m L found raw room long all begins sound = record {
   room = rw length-set room;
@@ -62,7 +62,7 @@ module _ {m : Machine} {L : List Reached} {found₀ raw₀ found raw : List ℕ}
 
   pub reached-long : length raw ≡ length raw₀
   reached-long =
-      let below : s ≤ 127 = omega (arith, now .search .inside, few) in
+      let below : s ≤ min 127 (length L) = omega (arith, now .search .inside, few, all) in
       let low = mul-le-mul-right (m .width) below in
       rw (now .rows)
       (laid-length 0 (m .width) (table m L) raw₀ (table-wide m L) s (omega (arith, all, now .search .inside, table-length m L)) (omega (arith, now .long, low)))
@@ -70,7 +70,7 @@ module _ {m : Machine} {L : List Reached} {found₀ raw₀ found raw : List ℕ}
   module _ (b : s < n) where
     -- row s lies within
     pub reached-row : s * m .width + m .width ≤ length raw
-    reached-row = omega (arith, row-within s 127 (m .width) (omega (arith, few)), reached-long, now .long)
+    reached-row = omega (arith, row-within s (min 127 (length L)) (m .width) (omega (arith, few, all)), reached-long, now .long)
 
     -- its state has been visited, with r found then
     module _ {r : ℕ} {found′ part : List ℕ} (visited : VisitedState m (getD found s 0) (take n found) found (drop (s * m .width) raw) r found′ part) where

@@ -2,7 +2,7 @@
 use mathlib.Core.Path.{_≡_}
 use mathlib.Core.Bool.{Bool, cond, _&&_}
 use mathlib.Core.List.{List}
-use Prim.Native.Nat.{ℕ, suc, _-_, _%_, _<_, _≤_}
+use Prim.Native.Nat.{ℕ, suc, min, _-_, _*_, _%_, _<_, _≤_}
 use lib.Dec.{eqb, leb, ltb}
 use lib.ListN.{length, getD}
 use Rattle.automaton.specs.Machine.{Machine}
@@ -45,6 +45,10 @@ atMost most n = cond (leb n most) n 0
 -- the states that m reaches, in the order of their earliest history: all of them if they are at most 127
 unfoldable pub allReached : Machine → List Reached
 allReached m = reached m 127
+
+-- a buffer of so many bytes has room for the rows of the states that m reaches, and at most for 127 rows
+abbrev pub RowsFit : Machine → ℕ → Type 0
+RowsFit m room = min 127 (length (allReached m)) * m .width ≤ room
 
 -- the states that m reaches are in the array found′, and the rows of their table, one after another, in raw′; where r is 0 there are over 127, and
 -- nothing is said of the arrays

@@ -8,7 +8,7 @@ ghost use Rattle.definitions.specs.Answer.{written};
 ghost use Rattle.definitions.specs.Bytes.{byte};
 ghost use Rattle.explore.specs.SetImages.{emptySets, unions, withImages, imagesOfSet, imagesMachine};
 ghost use Rattle.automaton.specs.StateList.{numberAmong, addState};
-ghost use Rattle.explore.specs.Reaches.{Once, Hinted, isNumber, VisitedByImages, Reaches};
+ghost use Rattle.explore.specs.Reaches.{Once, Hinted, isNumber, VisitedByImages, RowsFit, Reaches};
 use automaton::wide;
 use situation::Situation;
 
@@ -201,7 +201,8 @@ fn explore_in(
     hints: &mut [u8],
 ) -> usize
     requires { ⌜ (valuations ≤ 64) × (valuations * w ≤ length (now images)) × (length (now next) ≡ w) × (0 < start .set) ⌝ }
-    requires { ⌜ (128 ≤ length (now found)) × (127 * w ≤ length (now raw)) × (256 ≤ length (now hints)) × (1 ≤ byte (now hints) (start .set % 251)) ⌝ }
+    requires { ⌜ (128 ≤ length (now found)) × RowsFit (imagesMachine (now images) valuations w (start .set)) (length (now raw)) ⌝ }
+    requires { ⌜ (256 ≤ length (now hints)) × (1 ≤ byte (now hints) (start .set % 251)) ⌝ }
     ensures { λ r. ⌜ Reaches (imagesMachine (now (images .entry)) valuations w (start .set))
         (now (found .entry)) (now (raw .entry)) r (now (found .exit)) (now (raw .exit)) ⌝ }
 {
@@ -240,7 +241,7 @@ pub fn explore(
     raw: &mut [u8],
 ) -> usize
     requires { ⌜ (valuations ≤ 64) × (w ≤ 136) × (valuations * w ≤ length (now images)) × (0 < start .set) ⌝ }
-    requires { ⌜ (128 ≤ length (now found)) × (127 * w ≤ length (now raw)) ⌝ }
+    requires { ⌜ (128 ≤ length (now found)) × RowsFit (imagesMachine (now images) valuations w (start .set)) (length (now raw)) ⌝ }
     ensures { λ r. ⌜ Reaches (imagesMachine (now (images .entry)) valuations w (start .set))
         (now (found .entry)) (now (raw .entry)) r (now (found .exit)) (now (raw .exit)) ⌝ }
 {

@@ -1,11 +1,12 @@
 -- `build_in` meets its contract: what exploring leaves is the table of the policy's situations, and its book is written.
 use Rattle.images.specs.Images.{ImagesOf}
+use Rattle.build.specs.Buildable.{RoomFor}
 use Rattle.build.proofs.PolicySizes.{has-passed, width-low, start-low, start-some, valuations-low, book-fits, header-read}
-use Rattle.build.proofs.RawTable.{SituationRows, situations-over, situation-rows}
+use Rattle.build.proofs.RawTable.{SituationRows, situations-fit, situations-over, situation-rows}
 use Rattle.build.proofs.BuildAnswers.{refused-by-11, refused-by-none, build-refused, build-given}
 use Rattle.explore.specs.SetImages.{imagesMachine}
 use Rattle.definitions.specs.Situation.{emptySet, insert, startSituation}
-use Rattle.explore.specs.Reaches.{Reaches}
+use Rattle.explore.specs.Reaches.{RowsFit, Reaches}
 use Rattle.definitions.specs.Policy.{width}
 use Rattle.policy.specs.declared.shape.Shape.{Shape}
 use Rattle.policy.specs.Shape.{shapeOf}
@@ -13,7 +14,7 @@ use Rattle.definitions.specs.Valuation.{valuations}
 use Rattle.definitions.specs.Refusal.{situations}
 use lib.ListN.{length, replicate}
 use mathlib.Core.List.{List}
-use Prim.Native.Nat.{ℕ, _*_, _<_, _≤_}
+use Prim.Native.Nat.{ℕ, min, _*_, _<_, _≤_}
 use native.Mathlib.Omega.{arith}
 use mathlib.Core.Path.{_≡_, sym, ap, subst, _∙_}
 use borrow.Author.Needs.{needs}
@@ -21,8 +22,7 @@ use Rattle.build.proofs.build_in.Statement.{statement}
 use Rattle.build.proofs.build_in.Tie as tie
 
 -- ---- the room, by the policy's numbers
-room : (p : List ℕ) (s : Shape) (images raw : ℕ) → s ≡ shapeOf p → (s .valuations * s .width ≤ images) × (127 * s .width ≤ raw)
-    → (valuations p * width p ≤ images) × (127 * width p ≤ raw)
+room : (p : List ℕ) (s : Shape) (images raw : ℕ) → s ≡ shapeOf p → RoomFor p s images raw → RoomFor p (shapeOf p) images raw
 room p s images raw e h = rw e at h
 
 -- ---- the machine that is explored, by the policy's numbers
@@ -30,6 +30,10 @@ reaches-by : (p images found raw : List ℕ) (s : Shape) (set n : ℕ) (found′
     → Reaches (imagesMachine images (s .valuations) (s .width) set) found raw n found′ raw′
     → Reaches (imagesMachine images (valuations p) (width p) (startSituation p)) found raw n found′ raw′
 reaches-by p images found raw s set n found′ raw′ is begins h = rw (is, begins) at h
+
+fits-by : (p images : List ℕ) (s : Shape) (set room : ℕ) → s ≡ shapeOf p → set ≡ startSituation p → ImagesOf p images
+    → min 127 (length (situations p)) * s .width ≤ room → RowsFit (imagesMachine images (s .valuations) (s .width) set) room
+fits-by p images s set room is begins are h = rw (is, begins) (situations-fit p images are room (rw is at h))
 
 -- ---- after exploring
 abbrev start : tie.After-explore → tie.Start
@@ -56,8 +60,11 @@ reaches : (c : tie.After-explore)
     (c .explore .result) (c .explore .last .1 .1 .1 .1 .0) (c .explore .last .1 .1 .1 .1 .1 .0)
 reaches c = reaches-by (policy c) (images c) (replicate 128 0) (start c .args .raw .now) (start c .args .shape) _ _ _ _ (numbers c) (start-is c) (c .explore .ensures)
 
-raw-fits : (c : tie.After-explore) → 127 * width (policy c) ≤ length (start c .args .raw .now)
-raw-fits c = room (policy c) (start c .args .shape) (length (start c .args .images .now)) (length (start c .args .raw .now)) (numbers c) (start c .pre .1) .1
+raw-fits : (c : tie.After-explore)
+    → RowsFit (imagesMachine (images c) (valuations (policy c)) (width (policy c)) (startSituation (policy c))) (length (start c .args .raw .now))
+raw-fits c =
+    situations-fit (policy c) (images c) (images-of c) (length (start c .args .raw .now))
+    (room (policy c) (start c .args .shape) (length (start c .args .images .now)) (length (start c .args .raw .now)) (numbers c) (start c .pre .1) .1)
 
 wide : (c : tie.After-explore) → start c .args .shape .width ≡ width (policy c)
 wide c = ap (λ (s : Shape). s .width) (numbers c)
@@ -94,7 +101,7 @@ explore-requires c κs =
     let few = ap (λ (s : Shape). s .valuations) is in
     let wide = ap (λ (s : Shape). s .width) is in (
       (omega (arith, valuations-low policy file, few), omega (arith, width-low policy file, wide), omega (arith, c .before .before .before .before .before .before .fill-images .kept .1 .1 .0, p .pre .1 .0), some),
-      (omega arith, p .pre .1 .1),
+      (omega arith, fits-by policy (c .before .before .before .before .before .before .fill-images .last .1 .1 .0) (p .args .shape) _ (length (p .args .raw .now)) is begins (c .before .before .before .before .before .before .fill-images .ensures) (p .pre .1 .1)),
     )
 
 same-length : tie.Need-same-length

@@ -23,7 +23,7 @@ explore-in-requires c κs =
     let s = c .before .before .before .before .before .before .before .before in
     let p = s .pre in
     let hints = one-hint (s .args .start .set) in
-    ((p .0 .0, p .0 .2, length-take-le (s .args .w) _ (p .0 .1), p .0 .3), (p .1 .0, p .1 .1, hints .0, hints .1))
+    ((p .0 .0, p .0 .2, length-take-le (s .args .w) _ (p .0 .1), p .0 .3), ((p .1 .0, p .1 .1), (hints .0, hints .1)))
 
 same-length : tie.Need-same-length
 same-length c = search needs

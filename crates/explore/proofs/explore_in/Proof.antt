@@ -41,7 +41,7 @@ so-far : (c : tie.At-loop Inv-loop μ-loop)
     StatesReached (machine p) (allReached (machine p)) (set (p .args .found .now) 0 (p .args .start .set)) (p .args .raw .now) (c .loop .found) (c .loop .raw) (c .loop .n) (c .loop .s)
 so-far c =
     let p = begun c in
-    c .loop .inv .0 (p .args .start .set) (p .pre .0 .3) (getD-set-same (p .args .found .now) 0 (p .args .start .set) 0 (omega (arith, p .pre .1 .0)))
+    c .loop .inv .0 (p .args .start .set) (p .pre .0 .3) (getD-set-same (p .args .found .now) 0 (p .args .start .set) 0 (omega (arith, p .pre .1 .0 .0)))
 
 -- what is reached from a start that is a state
 all : (m : Machine) → reached m 127 ≡ allReached m
@@ -60,12 +60,12 @@ loop-holds c =
     let p = c .before .before .before .before .before in
     let a = p .args in (
       λ start state e.
-          let is : a .start .set ≡ start = sym (getD-set-same (a .found .now) 0 (a .start .set) 0 (omega (arith, p .pre .1 .0))) ∙ e in
+          let is : a .start .set ≡ start = sym (getD-set-same (a .found .now) 0 (a .start .set) 0 (omega (arith, p .pre .1 .0 .0))) ∙ e in
           let m = imagesMachine (a .images .now) (a .valuations) (a .w) start in
-          rw is (reached-begun m (allReached m) (a .found .now) (a .raw .now) (p .pre .1 .0) (p .pre .1 .1) (all m) (is-state start state) (sound m (is-state start state))),
+          rw is (reached-begun m (allReached m) (a .found .now) (a .raw .now) (p .pre .1 .0 .0) (rw is at (p .pre .1 .0 .1)) (all m) (is-state start state) (sound m (is-state start state))),
       p .pre .0 .2,
       refl,
-      hinted-first (a .found .now) (a .hints .now) (a .start .set) (omega (arith, p .pre .1 .0)) (p .pre .1 .3),
+      hinted-first (a .found .now) (a .hints .now) (a .start .set) (omega (arith, p .pre .1 .0 .0)) (p .pre .1 .1 .1),
     )
 
 mul-t15 : tie.Need-mul-t15 Inv-loop μ-loop
@@ -104,7 +104,7 @@ visit-requires c κs =
       (p .0 .0, p .0 .1, at .loop .inv .1),
       (
         (i .search .few, omega (arith, r, i .room), rw (part-is-drop, length-drop) (omega arith), searched-state (i .search) t),
-        (omega (arith, at .loop .inv .2, p .1 .2), i .once, at .loop .inv .3),
+        (omega (arith, at .loop .inv .2, p .1 .1 .0), i .once, at .loop .inv .3),
       ),
     )
 
@@ -132,7 +132,7 @@ returns c =
     let at = c .before .before .before .before .before .before .before .before .before .before .before .before .before .before .before .before in
     let p = begun at in
     let visited = c .before .before .before .before .before .before .before .before .before .visit .ensures .0 (p .args .start .set) in
-    reaches-from (p .args .start .set) (omega (arith, p .pre .1 .0)) (sound (machine p) (is-state (p .args .start .set) (p .pre .0 .3)) .some)
+    reaches-from (p .args .start .set) (omega (arith, p .pre .1 .0 .0)) (sound (machine p) (is-state (p .args .start .set) (p .pre .0 .3)) .some)
     (reached-over (so-far at) (c .before .before .before .before .before .before .before .before .before .before .before .before .before .before .before .loop-test .taken) (rw part-is-drop at visited) refl (c .if1 .taken))
 
 add-s : tie.Need-add-s Inv-loop μ-loop
@@ -167,7 +167,7 @@ same-length-8 c = c .before .loop .inv .2
 returns-2 : tie.Need-returns-2 Inv-loop μ-loop
 returns-2 c =
     let p = begun (c .before) in
-    reaches-from (p .args .start .set) (omega (arith, p .pre .1 .0)) (sound (machine p) (is-state (p .args .start .set) (p .pre .0 .3)) .some)
+    reaches-from (p .args .start .set) (omega (arith, p .pre .1 .0 .0)) (sound (machine p) (is-state (p .args .start .set) (p .pre .0 .3)) .some)
     (reached-done (so-far (c .before)) refl (c .loop-test .left))
 
 pub explore-in-spec : {M : Type 1} → statement M
