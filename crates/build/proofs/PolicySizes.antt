@@ -1,7 +1,7 @@
 -- The sizes of a policy that no row before row 11 refuses.
 use mathlib.Core.Path.{_≡_}
 use mathlib.Core.List.{List}
-use Prim.Native.Nat.{ℕ, min, _+_, _*_, _^_, _≤_, _<_}
+use Prim.Native.Nat.{ℕ, min, _+_, _-_, _*_, _^_, _≤_, _<_}
 use native.Mathlib.Omega.{arith}
 use native.Mathlib.Nat.{min-le-left, mul-le-mul, mul-le-mul-right}
 use lib.ListN.{length}
@@ -14,10 +14,9 @@ use Rattle.automaton.proofs.Machine.{state-is}
 use Rattle.definitions.proofs.Valuations.{start-valuation-below}
 use Rattle.definitions.proofs.Steps.{start-is-state, situations-few}
 use Rattle.policy.specs.declared.shape.Shape.{Shape}
-use Rattle.policy.specs.Shape.{shapeOf}
 use Rattle.policy.specs.Sized.{Passed}
 use Rattle.policy.proofs.PassedFile.{passed}
-use Rattle.build.specs.Buildable.{RoomFor}
+use Rattle.build.specs.Buildable.{RoomFor, Buildable}
 
 module _ (p : List ℕ) (e : fileRefusal p ≡ 0) where
   pub has-passed : Passed p
@@ -41,38 +40,29 @@ module _ (p : List ℕ) (e : fileRefusal p ≡ 0) where
   pub book-fits : (n : ℕ) → n ≤ 127 → 12 + n * width p ≤ 17284
   book-fits n l = omega (arith, mul-le-mul-right (width p) l, rows-fit)
 
-  -- ---- the rooms to work in, where the numbers at hand are the policy's
-  module _ (s : Shape) (is : s ≡ shapeOf p) where
-    few : (s .valuations ≤ 64) × (s .width ≤ 136)
-    few = rw is (valuations-low, width-low)
-
-    -- at most 127 rows of at most w bytes
-    rows-of : (w : ℕ) → s .width ≤ w → min 127 (length (situations p)) * s .width ≤ 127 * w
-    rows-of w l = mul-le-mul (min-le-left 127 (length (situations p))) l
-
-    pub room-wide : RoomFor p s 8704 17272
-    room-wide = (mul-le-mul (few .0) (few .1), rows-of 136 (few .1))
-
-    pub room-narrow : s .width ≤ 32 → RoomFor p s 2048 4064
-    room-narrow l = (mul-le-mul (few .0) l, rows-of 32 l)
-
-    pub room-small : s .width ≤ 32 → s .valuations * s .width ≤ 512 → RoomFor p s 512 4064
-    room-small l fits = (fits, rows-of 32 l)
-
-    pub room-tiny : s .width ≤ 8 → s .valuations * s .width ≤ 64 → RoomFor p s 64 1016
-    room-tiny l fits = (fits, rows-of 8 l)
-
-    -- of at most 3 valuations there are at most 7 situations
-    pub room-few : s .valuations ≤ 3 → RoomFor p s 408 952
-    room-few l = (mul-le-mul l (few .1), mul-le-mul seven (few .1))
-      where
-        all : 2 ^ valuations p ≤ 8
-        all = pow-mono (rw is at l)
-
-        seven : min 127 (length (situations p)) ≤ 7
-        seven = omega (arith, situations-few p, all)
-
   pub header-read : (9 ≤ length p) × (9 + fields p ≤ length p)
   header-read =
       let exact = has-passed .sized .exact in
       (omega arith, omega arith)
+
+-- ---- the room to work in
+module _ {p : List ℕ} {s : Shape} {book : List ℕ} (ready : Buildable p s book) where
+  pub width-most : s .width ≤ 136
+  width-most = rw (ready .numbers) (width-low p (ready .file))
+
+  -- for at most w codes: 127 rows, and as many images as there are, or 64 of each code
+  pub room-by-images : (w images : ℕ) → s .width ≤ w → s .valuations * s .width ≤ images → RoomFor p s images (127 * w)
+  room-by-images w images l fits = (fits, mul-le-mul (min-le-left 127 (length (situations p))) l)
+
+  pub room-by-codes : (w : ℕ) → s .width ≤ w → RoomFor p s (64 * w) (127 * w)
+  room-by-codes w l = room-by-images w (64 * w) l (mul-le-mul (rw (ready .numbers) (valuations-low p (ready .file))) l)
+
+  -- for at most v valuations besides: their sets but the empty one are all the situations that there can be
+  pub room-by-valuations : (v w : ℕ) → s .valuations ≤ v → s .width ≤ w → RoomFor p s (v * w) ((2 ^ v - 1) * w)
+  room-by-valuations v w few l = (mul-le-mul few l, mul-le-mul sets l)
+    where
+      all : 2 ^ valuations p ≤ 2 ^ v
+      all = pow-mono (rw (ready .numbers) at few)
+
+      sets : min 127 (length (situations p)) ≤ 2 ^ v - 1
+      sets = omega (arith, situations-few p, all)

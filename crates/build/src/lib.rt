@@ -87,9 +87,9 @@ fn build_in(
     Built::Written(write_book(book, policy, raw, n, w))
 }
 
-// The same, with room for every policy. The size of an array is a constant, so that each size has a function of its own; smaller arrays are cleared faster.
+// The same, with arrays for room: enough for every policy.
 fn build_wide(policy: &[u8], shape: Shape, book: &mut [u8]) -> Built
-    requires { ⌜ Buildable (now policy) shape (now book) × RoomFor (now policy) shape 8704 17272 ⌝ }
+    requires { ⌜ Buildable (now policy) shape (now book) ⌝ }
     ensures { λ r. ⌜ builtAnswer r ≡ buildAnswer (now (policy .entry)) (now (book .entry)) ⌝ }
     ensures { λ r. ⌜ now (book .exit) ≡ buildBuffer (now (policy .entry)) (now (book .entry)) ⌝ }
 {
@@ -98,81 +98,65 @@ fn build_wide(policy: &[u8], shape: Shape, book: &mut [u8]) -> Built
     build_in(policy, shape, book, &mut images, &mut raw)
 }
 
-// The same for a policy of at most 32 codes.
+// The same in smaller arrays, which are cleared faster: for at most 32 codes, or for at most 6 valuations. These have 63 sets that are not empty, so that there are
+// at most 63 situations.
 fn build_narrow(policy: &[u8], shape: Shape, book: &mut [u8]) -> Built
-    requires { ⌜ Buildable (now policy) shape (now book) × RoomFor (now policy) shape 2048 4064 ⌝ }
+    requires { ⌜ Buildable (now policy) shape (now book) × (32 < shape .width → shape .valuations ≤ 6) ⌝ }
     ensures { λ r. ⌜ builtAnswer r ≡ buildAnswer (now (policy .entry)) (now (book .entry)) ⌝ }
     ensures { λ r. ⌜ now (book .exit) ≡ buildBuffer (now (policy .entry)) (now (book .entry)) ⌝ }
 {
+    if 32 < shape.width {
+        let mut images = [0u64; 816];
+        let mut raw = [0u8; 8568];
+        return build_in(policy, shape, book, &mut images, &mut raw);
+    }
     let mut images = [0u64; 2048];
     let mut raw = [0u8; 4064];
     build_in(policy, shape, book, &mut images, &mut raw)
 }
 
-// The same where the images are few as well.
-fn build_small(policy: &[u8], shape: Shape, book: &mut [u8]) -> Built
-    requires { ⌜ Buildable (now policy) shape (now book) × RoomFor (now policy) shape 512 4064 ⌝ }
-    ensures { λ r. ⌜ builtAnswer r ≡ buildAnswer (now (policy .entry)) (now (book .entry)) ⌝ }
-    ensures { λ r. ⌜ now (book .exit) ≡ buildBuffer (now (policy .entry)) (now (book .entry)) ⌝ }
-{
-    let mut images = [0u64; 512];
-    let mut raw = [0u8; 4064];
-    build_in(policy, shape, book, &mut images, &mut raw)
-}
-
-// The same for at most 3 valuations, as where there are no rules: they have at most 7 sets that are not empty, so that there are at most 7 situations.
-fn build_few(policy: &[u8], shape: Shape, book: &mut [u8]) -> Built
-    requires { ⌜ Buildable (now policy) shape (now book) × RoomFor (now policy) shape 408 952 ⌝ }
-    ensures { λ r. ⌜ builtAnswer r ≡ buildAnswer (now (policy .entry)) (now (book .entry)) ⌝ }
-    ensures { λ r. ⌜ now (book .exit) ≡ buildBuffer (now (policy .entry)) (now (book .entry)) ⌝ }
-{
-    let mut images = [0u64; 408];
-    let mut raw = [0u8; 952];
-    build_in(policy, shape, book, &mut images, &mut raw)
-}
-
-// The same for at most 8 codes and 64 images.
-fn build_tiny(policy: &[u8], shape: Shape, book: &mut [u8]) -> Built
-    requires { ⌜ Buildable (now policy) shape (now book) × RoomFor (now policy) shape 64 1016 ⌝ }
-    ensures { λ r. ⌜ builtAnswer r ≡ buildAnswer (now (policy .entry)) (now (book .entry)) ⌝ }
-    ensures { λ r. ⌜ now (book .exit) ≡ buildBuffer (now (policy .entry)) (now (book .entry)) ⌝ }
-{
-    let mut images = [0u64; 64];
-    let mut raw = [0u8; 1016];
-    build_in(policy, shape, book, &mut images, &mut raw)
-}
-
-// With the room that the policy's numbers ask for, where the least is not enough.
-fn build_larger(policy: &[u8], shape: Shape, book: &mut [u8]) -> Built
+// With the room that the policy's numbers ask for, where the images are many.
+fn build_many(policy: &[u8], shape: Shape, book: &mut [u8]) -> Built
     requires { ⌜ Buildable (now policy) shape (now book) ⌝ }
     ensures { λ r. ⌜ builtAnswer r ≡ buildAnswer (now (policy .entry)) (now (book .entry)) ⌝ }
     ensures { λ r. ⌜ now (book .exit) ≡ buildBuffer (now (policy .entry)) (now (book .entry)) ⌝ }
 {
-    if shape.valuations <= 3 {
-        return build_few(policy, shape, book);
-    }
-    if 32 < shape.width {
-        return build_wide(policy, shape, book);
-    }
-    if 512 < shape.valuations * shape.width {
+    if shape.width <= 32 {
         return build_narrow(policy, shape, book);
     }
-    build_small(policy, shape, book)
+    if shape.valuations <= 6 {
+        return build_narrow(policy, shape, book);
+    }
+    build_wide(policy, shape, book)
 }
 
-// With the room that the policy's numbers ask for.
+// With the room that the policy's numbers ask for: the least for at most 3 valuations, which have at most 7 situations (without rules there is one of each). The
+// large arrays are behind a function that is called from two places and so not made part of this one: to have them on its stack, page by page, would take as
+// long as to clear some thousand bytes.
 fn build_sized(policy: &[u8], shape: Shape, book: &mut [u8]) -> Built
     requires { ⌜ Buildable (now policy) shape (now book) ⌝ }
     ensures { λ r. ⌜ builtAnswer r ≡ buildAnswer (now (policy .entry)) (now (book .entry)) ⌝ }
     ensures { λ r. ⌜ now (book .exit) ≡ buildBuffer (now (policy .entry)) (now (book .entry)) ⌝ }
 {
-    if 8 < shape.width {
-        return build_larger(policy, shape, book);
+    if 32 < shape.width {
+        if 3 < shape.valuations {
+            return build_many(policy, shape, book);
+        }
+        let mut images = [0u64; 408];
+        let mut raw = [0u8; 952];
+        return build_in(policy, shape, book, &mut images, &mut raw);
     }
-    if 64 < shape.valuations * shape.width {
-        return build_larger(policy, shape, book);
+    if shape.valuations <= 3 {
+        let mut images = [0u64; 96];
+        let mut raw = [0u8; 224];
+        return build_in(policy, shape, book, &mut images, &mut raw);
     }
-    build_tiny(policy, shape, book)
+    if 512 < shape.valuations * shape.width {
+        return build_many(policy, shape, book);
+    }
+    let mut images = [0u64; 512];
+    let mut raw = [0u8; 4064];
+    build_in(policy, shape, book, &mut images, &mut raw)
 }
 
 // The book of a policy, in the first bytes of the buffer; the bytes after it are unchanged. A refusal leaves the whole buffer as it was.
