@@ -60,6 +60,21 @@ void no_rules(struct bytes *policy)
         PUT(policy, (uint8_t)(i % 3));
 }
 
+void some_valuations(struct bytes *policy, unsigned valuations, unsigned events, unsigned high, unsigned low)
+{
+    unsigned all = (1u << high) - 1;
+    uint8_t masks[4] = { (uint8_t)(all >> 8), (uint8_t)all, 0, (uint8_t)((1u << low) - 1) }, most = (uint8_t)(valuations - 1);
+    unsigned rules = most == 0 ? 0 : 2;
+    policy->length = 0;
+    PUT(policy, 'P', 'O', 'L', 0, 1, (uint8_t)events, 2, rules != 0, (uint8_t)rules, (uint8_t)high, (uint8_t)low);
+    for (unsigned k = 0; k < rules; k++) {
+        put(policy, masks, 4);
+        PUT(policy, k == 0, 0, k == 0 ? 0 : most, k == 0 ? most : 0, k == 0);
+    }
+    for (unsigned e = 0; rules != 0 && e < events; e++)
+        PUT(policy, 2);
+}
+
 void many_states(struct bytes *policy, unsigned top, unsigned events, unsigned high, unsigned low, unsigned rules)
 {
     unsigned half = (1u << high / 2) - 1;

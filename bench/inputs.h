@@ -26,6 +26,12 @@ void forty_states_started(struct bytes *policy);
 void no_rules(struct bytes *policy);
 
 /*
+ * So many valuations, 1 to 64, and as many situations and states: every request is accepted, one less than so many times, and then rejected, until an event. With
+ * one valuation there are no rules and no variable. Requests have two fields, of `high` values and of `low`; `events` is how many events there are.
+ */
+void some_valuations(struct bytes *policy, unsigned valuations, unsigned events, unsigned high, unsigned low);
+
+/*
  * 2 × top + 1 situations and as many states, for top from 2 to 63: the sets {k} and {k, k + 1}. Requests have two fields, of `high` values (an even
  * number) and of `low`; `events` is how many events there are, `rules` how many rules, 5 or more.
  */

@@ -189,6 +189,17 @@ static void growth_head(const char *what, const char *rest)
     printf("\n%s (%s):\n\n| %s | build, µs | / plain C | verdict, µs | / plain C | compare, µs | / plain C |\n|---:|---:|---:|---:|---:|---:|---:|\n", what, rest, what);
 }
 
+/* Valuations from one, which is a policy without rules, to where the arrays that build takes are the largest. */
+static void valuation_rows(const char *rest, unsigned events, unsigned high, unsigned low, struct job *j)
+{
+    static const unsigned valuations[] = { 1, 2, 3, 4, 6, 7, 16, 64 };
+    growth_head("valuations", rest);
+    for (size_t i = 0; i < sizeof valuations / sizeof *valuations; i++) {
+        some_valuations(&j->policy, valuations[i], events, high, low);
+        growth_row(valuations[i], j);
+    }
+}
+
 static void print_growth(struct job *j)
 {
     static const unsigned tops[] = { 3, 7, 15, 31, 47, 63 }, widths[][2] = { { 2, 1 }, { 4, 1 }, { 8, 1 }, { 16, 1 }, { 16, 2 }, { 16, 4 } };
@@ -208,6 +219,9 @@ static void print_growth(struct job *j)
         many_states(&j->policy, 63, 8, 16, 4, rules[i]);
         growth_row(rules[i], j);
     }
+    valuation_rows("7 codes; 1 is a policy without rules", 1, 3, 1, j);
+    valuation_rows("34 codes; 1 is a policy without rules", 2, 16, 1, j);
+    valuation_rows("136 codes; 1 is a policy without rules", 8, 16, 4, j);
 }
 
 int main(int argc, char **argv)
