@@ -54,10 +54,12 @@ static void print_blocked(struct policybook_finding finding, const uint8_t *book
 {
     if (!finding.found) {
         printf("  blocked: none\n");
-        return;
+    } else if (finding.length == 0) {
+        printf("  blocked: no request is ever answered\n");
+    } else {
+        printf("  blocked: no request is answered any more");
+        print_when(book, finding, history);
     }
-    printf("  blocked: no request is answered any more");
-    print_when(book, finding, history);
 }
 
 /* Prints the three findings. 1 if the book is refused, which no built book is. */

@@ -108,7 +108,10 @@ fn findings_in_words(table: &Table) -> String {
     };
     let blocked = found.blocked.as_ref().map(|history| {
         let when = when(&names, history);
-        format!("- **blocked**: {when} no request is answered any more.\n")
+        match history.is_empty() {
+            true => "- **blocked**: no request is ever answered.\n".to_string(),
+            false => format!("- **blocked**: {when} no request is answered any more.\n"),
+        }
     });
     let sentences = [
         about(

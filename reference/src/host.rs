@@ -89,10 +89,14 @@ fn judgement(name: &str, book: &Book) -> String {
         book.states(),
         about_request(found.conflict, "may be both accepted and rejected"),
         about_request(found.missing, "is unanswered"),
-        found.blocked.map_or("none".to_string(), |history| format!(
-            "no request is answered any more, {}",
-            when(&names, &history)
-        ))
+        match found.blocked {
+            None => "none".to_string(),
+            Some(history) if history.is_empty() => "no request is ever answered".to_string(),
+            Some(history) => format!(
+                "no request is answered any more, {}",
+                when(&names, &history)
+            ),
+        }
     )
 }
 

@@ -256,7 +256,7 @@ fn the_host_tells_that_nothing_is_answered() {
         format!(
             "{name}: a book of 19 bytes, states: 1\n  conflict: none\n  \
              missing: request 0 is unanswered, already at the start\n  \
-             blocked: no request is answered any more, already at the start\n"
+             blocked: no request is ever answered\n"
         )
     };
     assert_eq!(

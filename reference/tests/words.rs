@@ -81,7 +81,7 @@ fn the_host_tells_what_is_missing_and_blocked() {
     let never = bytes("50 4F 4C 00 01 00 01 01 01 01 | 00 01 01 00 01 00 00");
     let text = told(&never, &never);
     assert!(text.contains("missing: request 0 is unanswered, already at the start\n"));
-    assert!(text.contains("blocked: no request is answered any more, already at the start\n"));
+    assert!(text.contains("blocked: no request is ever answered\n"));
 }
 
 #[test]
