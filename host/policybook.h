@@ -26,8 +26,8 @@
  *   - about 128 kB of stack are free (for policybook_same_bytes next to nothing).
  * Nothing else is asked: any bytes may be given as a policy or as a book, and any length, request and outcome.
  *
- * Link with target/staticlib/libpolicybook.a, which `rt staticlib policybook` writes. Examples: host/sample.c, host/page.c,
- * host/way.c, host/inventory.c, host/answers.c.
+ * Link with libpolicybook.a: `rt staticlib policybook` writes it to target/staticlib, host/install puts it and this header where pkg-config finds
+ * them (docs/C-INTERFACE.md). Examples: host/walk.c, host/sample.c, host/page.c, host/way.c, host/inventory.c, host/answers.c.
  */
 #ifndef POLICYBOOK_H
 #define POLICYBOOK_H
@@ -207,23 +207,64 @@ static inline const char *policybook_refusal_text(unsigned number)
     }
 }
 
-/* ---- Reading a book that was built, or that verdict, compare, page or way did not refuse (16 and 18 are not about the book) ---- */
+/*
+ * ---- Reading and walking a book ----
+ *
+ * These take a book that was built, or that verdict, compare, page or way did not refuse (15, 16 and 18 are not about a book alone); they do not
+ * check it again and are not told its length. A book from elsewhere is checked by one call:
+ * policybook_way(book, book_length, 0, 0, history, POLICYBOOK_WAY_SIZE). A state, code or request may be any unsigned: outside the book nothing is
+ * possible, and nothing outside is read. Of bytes that are no book policybook_next and policybook_outcome_of may read more than there are; the
+ * other functions read the first 12.
+ *
+ *     unsigned state = 1;                                                     // the start
+ *     unsigned next = policybook_next(book, state, policybook_accept_code(book, 1));
+ *     if (next == 0) printf("request 1 may not be accepted now\n");            // keep the state: from state 0 nothing is possible
+ *     else state = next;
+ *     if (policybook_outcome_of(book, state, 0) == POLICYBOOK_OUTCOME_BOTH) printf("request 0 may be accepted and may be rejected\n");
+ *
+ * In the book of case E this step leads from state 1 to 2 and from 2 to 3; in state 3 it is not possible, and there the last line is printed. The
+ * code of event e is e itself.
+ */
 
-/* How many events, requests and states the book has. */
+/* How many events, requests, states and codes the book has. */
 static inline unsigned policybook_events_of(const uint8_t *book) { return book[5]; }
-static inline unsigned policybook_states_of(const uint8_t *book) { return book[11]; }
 static inline unsigned policybook_requests_of(const uint8_t *book)
 {
     unsigned requests = 1;
-    for (unsigned field = 0; field < book[6]; field++) requests *= book[7 + field];
+    for (unsigned field = 0; field < book[6] && field < 4; field++) requests *= book[7 + field];
     return requests;
 }
+static inline unsigned policybook_states_of(const uint8_t *book) { return book[11]; }
+static inline unsigned policybook_codes_of(const uint8_t *book) { return policybook_events_of(book) + 2 * policybook_requests_of(book); }
 
-/* The state that a code (below events + 2 * requests) leads to from a state (1 is the start), 0 if the step is not possible. */
+/* The code of a request accepted, and rejected. For a request that the book has not: the number of codes, which is no code. */
+static inline unsigned policybook_accept_code(const uint8_t *book, unsigned request)
+{
+    if (request >= policybook_requests_of(book)) return policybook_codes_of(book);
+    return policybook_events_of(book) + 2 * request;
+}
+static inline unsigned policybook_reject_code(const uint8_t *book, unsigned request)
+{
+    if (request >= policybook_requests_of(book)) return policybook_codes_of(book);
+    return policybook_events_of(book) + 2 * request + 1;
+}
+
+/* The state that a code leads to from a state (1 is the start). 0 if the step is not possible, or the book has no such state (as 0) or code. */
 static inline unsigned policybook_next(const uint8_t *book, unsigned state, unsigned code)
 {
-    size_t width = policybook_events_of(book) + 2 * policybook_requests_of(book);
-    return book[12 + (state - 1) * width + code];
+    size_t codes = policybook_codes_of(book);
+    if (state < 1 || state > policybook_states_of(book) || code >= codes) return 0;
+    return book[12 + (state - 1) * codes + code];
+}
+
+/* What may happen to a request in a state. POLICYBOOK_OUTCOME_NONE if the book has no such state or request. */
+static inline enum policybook_outcome policybook_outcome_of(const uint8_t *book, unsigned state, unsigned request)
+{
+    int may_accept = policybook_next(book, state, policybook_accept_code(book, request)) != 0;
+    int may_reject = policybook_next(book, state, policybook_reject_code(book, request)) != 0;
+    if (may_accept && may_reject) return POLICYBOOK_OUTCOME_BOTH;
+    if (may_accept) return POLICYBOOK_OUTCOME_ACCEPT;
+    return may_reject ? POLICYBOOK_OUTCOME_REJECT : POLICYBOOK_OUTCOME_NONE;
 }
 
 /* What a code stands for. */
@@ -233,13 +274,17 @@ struct policybook_step {
     int accepted;     /* for a request: 1 accepted, 0 rejected */
 };
 
+/* For a code that the book has not: no event, not accepted, and as its number the number of requests, which no request has. */
 static inline struct policybook_step policybook_step_of(const uint8_t *book, unsigned code)
 {
-    struct policybook_step step = { 1, code, 0 };
-    if (code >= policybook_events_of(book)) {
-        step.is_event = 0;
-        step.number = (code - policybook_events_of(book)) / 2;
-        step.accepted = (code - policybook_events_of(book)) % 2 == 0;
+    struct policybook_step step = { 0, policybook_requests_of(book), 0 };
+    unsigned events = policybook_events_of(book);
+    if (code < events) {
+        step.is_event = 1;
+        step.number = code;
+    } else if (code < policybook_codes_of(book)) {
+        step.number = (code - events) / 2;
+        step.accepted = (code - events) % 2 == 0;
     }
     return step;
 }

@@ -68,6 +68,7 @@ int main(void)
     test_ways();
     test_same_bytes();
     test_no_rules();
+    test_next();
     test_reading();
     if (failures == 0) printf("host/test.c: every check holds\n");
     else printf("host/test.c: FAILED, checks that do not hold: %d\n", failures);

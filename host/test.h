@@ -36,5 +36,6 @@ void test_judging(void);
 void test_ways(void);
 void test_same_bytes(void);
 void test_no_rules(void);
+void test_next(void);
 
 #endif

@@ -1,0 +1,206 @@
+//! `check`: the findings on policies and books in words, and the rules that can
+//! be left out without changing the book.
+
+use std::collections::BTreeSet;
+
+use super::{count, given, history_json, one_standard_input, request_json, Answer, Command};
+use crate::arguments::{wrong, Arguments};
+use crate::book::Outcome;
+use crate::explain::{deciding_rules, Deciding};
+use crate::input::{read, Failure, Given, Subject};
+use crate::json::Json;
+use crate::library::{self, Finding, Findings};
+use crate::names::Names;
+use crate::notation::rule_words;
+use crate::policy::Policy;
+use crate::refusal::rule_place;
+
+pub fn check(arguments: &Arguments) -> Result<Answer, Failure> {
+    if arguments.words.is_empty() {
+        return Err(wrong("no file is named", Some(Command::Check)));
+    }
+    one_standard_input(arguments, Command::Check)?;
+    let given = given(arguments)?;
+    let mut answer = Answer::default();
+    let (mut words, mut values) = (String::new(), Vec::new());
+    for file in &arguments.words {
+        match check_file(file, given.as_ref()) {
+            Ok(checked) => {
+                answer.status = answer.status.max(u8::from(checked.has_findings()));
+                words.push_str(&checked.words());
+                values.push(checked.json());
+            }
+            Err(failure) => {
+                answer.status = 2;
+                answer.notes.push(failure.message);
+                values.push(failure.json);
+            }
+        }
+    }
+    answer.output = match arguments.json {
+        true => format!("{}\n", Json::Object(vec![("files", Json::List(values))])).into_bytes(),
+        false => words.into_bytes(),
+    };
+    Ok(answer)
+}
+
+/// A file with what was found.
+struct Checked {
+    subject: Subject,
+    findings: Findings,
+    /// The rules behind the conflict, if there is one and the file has rules.
+    deciding: Option<Deciding>,
+    /// The rules that can be left out, each by itself; from 0.
+    superfluous: Vec<usize>,
+    /// Whether all of them can be left out together.
+    together: bool,
+}
+
+fn check_file(file: &str, given: Option<&Given>) -> Result<Checked, Failure> {
+    let subject = read(file)?.subject(given)?;
+    let findings = subject.findings()?;
+    let (superfluous, together) = match &subject.policy {
+        None => (Vec::new(), false),
+        Some(policy) => superfluous_rules(policy, subject.book.bytes()),
+    };
+    let deciding = match (&subject.policy, &findings.conflict) {
+        (Some(policy), Some(conflict)) => Some(rules_of(&subject, policy, conflict)?),
+        _ => None,
+    };
+    Ok(Checked { subject, findings, deciding, superfluous, together })
+}
+
+/// The rules that accept and reject the request of a conflict. Some of each must
+/// be found, or the tool is wrong.
+fn rules_of(subject: &Subject, policy: &Policy, conflict: &Finding) -> Result<Deciding, Failure> {
+    let deciding = deciding_rules(policy, &conflict.history, conflict.request);
+    match deciding.accepting.is_empty() || deciding.rejecting.is_empty() {
+        true => Err(Failure::of_use(format!(
+            "{}: an error of this tool: the library finds a conflict, and the tool not its rules; please report it with the file",
+            subject.document.name
+        ))),
+        false => Ok(deciding),
+    }
+}
+
+/// The rules without which the book is the same byte for byte.
+fn superfluous_rules(policy: &Policy, book: &[u8]) -> (Vec<usize>, bool) {
+    let same_without = |rules: &[usize]| {
+        library::build(&policy.without(rules).encode()).is_ok_and(|other| library::same_bytes(&other, book))
+    };
+    let alone: Vec<usize> = (0..policy.rules.len()).filter(|&rule| same_without(&[rule])).collect();
+    let together = alone.len() > 1 && same_without(&alone);
+    (alone, together)
+}
+
+impl Checked {
+    fn has_findings(&self) -> bool {
+        let Findings { conflict, missing, blocked } = &self.findings;
+        conflict.is_some() || missing.is_some() || blocked.is_some()
+    }
+
+    fn words(&self) -> String {
+        let names = &self.subject.names;
+        let mut lines = vec![self.headline()];
+        if let Some(finding) = &self.findings.conflict {
+            lines.push(format!("  conflict: {}", of_request(names, finding, Outcome::Both)));
+            lines.extend(self.deciding.as_ref().map(|deciding| format!("            {}", self.deciding_words(deciding))));
+        }
+        if let Some(finding) = &self.findings.missing {
+            lines.push(format!("  missing:  {}", of_request(names, finding, Outcome::Unanswered)));
+        }
+        if let Some(finding) = &self.findings.blocked {
+            lines.push(format!("  blocked:  {}", blocked_words(names, finding)));
+        }
+        if !self.has_findings() {
+            lines.push("  no findings: after every history each request is either accepted or rejected".to_string());
+        }
+        lines.extend(self.superfluous_words());
+        lines.join("\n") + "\n"
+    }
+
+    fn headline(&self) -> String {
+        let states = count(self.subject.book.states(), "state");
+        match &self.subject.policy {
+            Some(policy) => format!("{}: {}, a book of {states}", self.subject.document.name, count(policy.rules.len(), "rule")),
+            None => format!("{}: a book of {states}", self.subject.document.name),
+        }
+    }
+
+    /// Which rules accept, and which reject.
+    fn deciding_words(&self, deciding: &Deciding) -> String {
+        let side = |rules: &BTreeSet<usize>, verb: &str| {
+            let places: Vec<String> = rules.iter().map(|&rule| rule_place(rule, self.subject.document.rule_lines())).collect();
+            let ending = if places.len() == 1 { "s" } else { "" };
+            format!("{} {verb}{ending}", places.join(" and "))
+        };
+        format!("{}; {}", side(&deciding.accepting, "accept"), side(&deciding.rejecting, "reject"))
+    }
+
+    fn superfluous_words(&self) -> Vec<String> {
+        let Some(policy) = &self.subject.policy else {
+            return Vec::new();
+        };
+        let mut lines: Vec<String> = self
+            .superfluous
+            .iter()
+            .map(|&rule| {
+                let place = rule_place(rule, self.subject.document.rule_lines());
+                format!("  {place} can be left out: {}", rule_words(&policy.rules[rule], &self.subject.names))
+            })
+            .collect();
+        if lines.len() > 1 {
+            let how = if self.together { "all of these together, too" } else { "each by itself, but not all of these together" };
+            lines.push(format!("  {how}"));
+        }
+        lines
+    }
+
+    fn json(&self) -> Json {
+        let names = &self.subject.names;
+        let lines = self.subject.document.rule_lines();
+        let rule = |&rule: &usize| Json::Object(vec![("rule", (rule + 1).into()), ("line", lines.map(|lines| lines[rule]).into())]);
+        let finding = |finding: &Option<Finding>, with_request: bool, rules: Option<&Deciding>| {
+            finding.as_ref().map_or(Json::Null, |finding| {
+                let request = with_request.then(|| ("request", request_json(names, finding.request)));
+                let mut members: Vec<(&str, Json)> = request.into_iter().collect();
+                members.push(("history", history_json(names, &finding.history)));
+                if let Some(rules) = rules {
+                    members.push(("accepting", rules.accepting.iter().map(rule).collect()));
+                    members.push(("rejecting", rules.rejecting.iter().map(rule).collect()));
+                }
+                Json::Object(members)
+            })
+        };
+        Json::Object(vec![
+            ("file", self.subject.document.name.as_str().into()),
+            ("kind", self.subject.document.kind.word().into()),
+            ("rules", self.subject.policy.as_ref().map(|policy| policy.rules.len()).into()),
+            ("states", self.subject.book.states().into()),
+            ("conflict", finding(&self.findings.conflict, true, self.deciding.as_ref())),
+            ("missing", finding(&self.findings.missing, true, None)),
+            ("blocked", finding(&self.findings.blocked, false, None)),
+            ("superfluous", self.superfluous.iter().map(rule).collect()),
+            ("superfluous_together", self.together.into()),
+        ])
+    }
+}
+
+fn of_request(names: &Names, finding: &Finding, outcome: Outcome) -> String {
+    format!("{}: {} {}", first_after(names, &finding.history), names.request(finding.request), outcome.words())
+}
+
+/// When a finding holds for the first time.
+fn first_after(names: &Names, history: &[u8]) -> String {
+    match history {
+        [] => "already at the start".to_string(),
+        _ => format!("first after {}", names.history(history)),
+    }
+}
+
+fn blocked_words(names: &Names, finding: &Finding) -> String {
+    match finding.history.is_empty() {
+        true => "from the start: no request is ever answered".to_string(),
+        false => format!("{}: no request is answered any more, whatever events follow", first_after(names, &finding.history)),
+    }
+}

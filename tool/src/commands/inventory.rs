@@ -1,0 +1,130 @@
+//! `inventory`: which of many books are equal, byte for byte.
+
+use std::collections::HashMap;
+use std::hash::{DefaultHasher, Hash, Hasher};
+use std::io::{self, IsTerminal, Write};
+use std::time::{Duration, Instant};
+
+use super::{count, one_standard_input, Answer, Command};
+use crate::arguments::{wrong, Arguments};
+use crate::input::{read, Failure};
+use crate::json::Json;
+use crate::library;
+
+/// Books that are equal, and the files that have them.
+struct Group<'a> {
+    book: Vec<u8>,
+    files: Vec<&'a str>,
+}
+
+pub fn inventory(arguments: &Arguments) -> Result<Answer, Failure> {
+    if arguments.words.is_empty() {
+        return Err(wrong("no file is named", Some(Command::Inventory)));
+    }
+    one_standard_input(arguments, Command::Inventory)?;
+    let mut groups = Groups::default();
+    let mut progress = Progress::new(arguments.words.len());
+    let mut failures = Vec::new();
+    for (number, file) in arguments.words.iter().enumerate() {
+        progress.show(number);
+        match read(file).and_then(|document| document.subject(None)) {
+            Ok(subject) => groups.add(file, subject.book.bytes()),
+            Err(failure) => failures.push(failure),
+        }
+    }
+    progress.clear();
+    let output = match arguments.json {
+        true => format!("{}\n", groups.json(&failures)),
+        false => groups.words(failures.len()),
+    };
+    Ok(Answer {
+        status: if failures.is_empty() { 0 } else { 2 },
+        output: output.into_bytes(),
+        notes: failures.into_iter().map(|failure| failure.message).collect(),
+        binary: false,
+    })
+}
+
+/// The groups so far, in the order of their first files.
+#[derive(Default)]
+struct Groups<'a> {
+    groups: Vec<Group<'a>>,
+    /// The groups whose books have a checksum. It keeps apart what cannot be
+    /// equal; that books are equal is said by the library alone.
+    by_checksum: HashMap<u64, Vec<usize>>,
+}
+
+impl<'a> Groups<'a> {
+    fn add(&mut self, file: &'a str, book: &[u8]) {
+        let mut hasher = DefaultHasher::new();
+        book.hash(&mut hasher);
+        let candidates = self.by_checksum.entry(hasher.finish()).or_default();
+        let equal = candidates.iter().find(|&&group| library::same_bytes(&self.groups[group].book, book));
+        match equal {
+            Some(&group) => self.groups[group].files.push(file),
+            None => {
+                candidates.push(self.groups.len());
+                self.groups.push(Group { book: book.to_vec(), files: vec![file] });
+            }
+        }
+    }
+
+    fn words(&self, failures: usize) -> String {
+        let mut lines = Vec::new();
+        for group in self.groups.iter().filter(|group| group.files.len() > 1) {
+            lines.push(format!("{} equal books of {}:", group.files.len(), count(usize::from(group.book[11]), "state")));
+            lines.extend(group.files.iter().map(|file| format!("  {file}")));
+        }
+        let single: Vec<&str> = self.groups.iter().filter(|group| group.files.len() == 1).map(|group| group.files[0]).collect();
+        if !single.is_empty() {
+            lines.push("unlike every other book:".to_string());
+            lines.extend(single.iter().map(|file| format!("  {file}")));
+        }
+        let files = self.groups.iter().map(|group| group.files.len()).sum();
+        let refused = if failures == 0 { String::new() } else { format!("; {} left out", count(failures, "file")) };
+        lines.push(format!("{}; {} if equal ones are kept once{refused}", count(files, "book"), self.groups.len()));
+        lines.join("\n") + "\n"
+    }
+
+    fn json(&self, failures: &[Failure]) -> Json {
+        let group = |group: &Group| {
+            Json::Object(vec![
+                ("states", usize::from(group.book[11]).into()),
+                ("files", group.files.iter().copied().collect()),
+            ])
+        };
+        Json::Object(vec![
+            ("groups", self.groups.iter().map(group).collect()),
+            ("failures", failures.iter().map(|failure| failure.json.clone()).collect()),
+        ])
+    }
+}
+
+/// A line on a terminal that says how far it is, where it takes long.
+struct Progress {
+    files: usize,
+    next: Instant,
+    shown: bool,
+    terminal: bool,
+}
+
+impl Progress {
+    fn new(files: usize) -> Progress {
+        Progress { files, next: Instant::now() + Duration::from_millis(500), shown: false, terminal: io::stderr().is_terminal() }
+    }
+
+    fn show(&mut self, done: usize) {
+        if self.terminal && Instant::now() >= self.next {
+            eprint!("\r{done} of {} files", self.files);
+            let _ = io::stderr().flush();
+            self.next = Instant::now() + Duration::from_millis(100);
+            self.shown = true;
+        }
+    }
+
+    fn clear(&self) {
+        if self.shown {
+            eprint!("\r{}\r", " ".repeat(40));
+        }
+    }
+}

@@ -1,0 +1,168 @@
+//! Steps and requests on the command line, by names or by numbers.
+
+use super::token::{list, quoted, tokens, Kind, Token};
+use crate::frame::Step;
+use crate::names::Names;
+
+/// The most steps that are taken; every state of a book is reached by fewer.
+const MOST_STEPS: usize = 10_000;
+
+/// The codes of the steps that these words say: an event's name; a request's
+/// values and what was decided; or a code; each may be followed by `twice` or
+/// `3 times`. Commas between steps, and between values, may be there.
+pub fn parse_steps(names: &Names, words: &[String]) -> Result<Vec<u8>, String> {
+    let mut reader = Reader::new(names, words)?;
+    let mut codes = Vec::new();
+    while !reader.at_end() {
+        let code = reader.step()? as u8;
+        let times = reader.times()?;
+        codes.extend(std::iter::repeat_n(code, times));
+        if codes.len() > MOST_STEPS {
+            return Err(format!("at most {MOST_STEPS} steps are taken"));
+        }
+        reader.skip_comma();
+    }
+    Ok(codes)
+}
+
+/// The request that these words say, by its values or its number, and the words
+/// after it.
+pub fn parse_request(names: &Names, words: &[String]) -> Result<(usize, Vec<String>), String> {
+    let mut reader = Reader::new(names, words)?;
+    let request = match reader.peek().kind {
+        Kind::Number(number) => {
+            reader.at += 1;
+            number as usize
+        }
+        _ => reader.request(false)?,
+    };
+    let rest = reader.tokens[reader.at..].iter().filter(|token| token.kind != Kind::End);
+    Ok((request, rest.map(|token| token.text.clone()).collect()))
+}
+
+struct Reader<'a> {
+    names: &'a Names,
+    tokens: Vec<Token>,
+    at: usize,
+}
+
+/// Whether a word is an event's or a value's name.
+fn is_name(names: &Names, word: &str) -> bool {
+    let values = names.fields.iter().flat_map(|field| &field.values);
+    names.events.iter().chain(values).any(|name| name == word)
+}
+
+impl Reader<'_> {
+    /// Each argument is split by itself, so that a quote does not go beyond it. One
+    /// that is a name as a whole needs no quotes.
+    fn new<'a>(names: &'a Names, words: &[String]) -> Result<Reader<'a>, String> {
+        let mut all = Vec::new();
+        for word in words {
+            if is_name(names, word) {
+                all.push(Token { kind: Kind::Name, text: word.clone(), line: 1, column: 1, length: 1 });
+                continue;
+            }
+            let (mut part, _) = tokens(word);
+            let last = part.pop();
+            if let Some(Token { kind: Kind::Bad(message), .. }) = last {
+                return Err(format!("in `{word}`: {message}"));
+            }
+            all.extend(part);
+        }
+        all.push(Token { kind: Kind::End, text: String::new(), line: 1, column: 1, length: 1 });
+        Ok(Reader { names, tokens: all, at: 0 })
+    }
+
+    fn peek(&self) -> &Token {
+        &self.tokens[self.at]
+    }
+
+    fn at_end(&self) -> bool {
+        self.peek().kind == Kind::End
+    }
+
+    fn skip_comma(&mut self) {
+        self.at += usize::from(self.peek().is(","));
+    }
+
+    /// How many times a step is taken. A name is read as a name.
+    fn times(&mut self) -> Result<usize, String> {
+        let token = self.peek();
+        if token.kind == Kind::Name && token.text == "twice" && !is_name(self.names, "twice") {
+            self.at += 1;
+            return Ok(2);
+        }
+        match (&token.kind, self.tokens.get(self.at + 1)) {
+            (Kind::Number(times), Some(next)) if next.kind == Kind::Name && next.text == "times" => {
+                let times = *times as usize;
+                self.at += 2;
+                match times <= MOST_STEPS {
+                    true => Ok(times),
+                    false => Err(format!("at most {MOST_STEPS} steps are taken")),
+                }
+            }
+            _ => Ok(1),
+        }
+    }
+
+    fn expected(&self, what: &str) -> String {
+        let found = match self.peek().kind {
+            Kind::End => "nothing more is there".to_string(),
+            _ => format!("found {}", self.peek().shown()),
+        };
+        format!("expected {what}; {found}")
+    }
+
+    fn step(&mut self) -> Result<usize, String> {
+        let token = self.peek().clone();
+        let frame = self.names.frame();
+        if let Kind::Number(code) = token.kind {
+            if code as usize >= frame.width() {
+                return Err(format!("the codes of the steps are 0 to {}; found `{code}`", frame.width() - 1));
+            }
+            self.at += 1;
+            return Ok(code as usize);
+        }
+        if token.kind != Kind::End {
+            if let Some(event) = self.names.events.iter().position(|name| *name == token.text) {
+                self.at += 1;
+                return Ok(event);
+            }
+        }
+        let request = self.request(true)?;
+        let accepted = match self.peek().text.as_str() {
+            "accept" | "accepted" => true,
+            "reject" | "rejected" => false,
+            _ => return Err(self.expected(&format!("`accepted` or `rejected` after {}", self.names.request(request)))),
+        };
+        self.at += 1;
+        Ok(frame.code(Step::Decided { request, accepted }))
+    }
+
+    /// A request by its values. Where a step may begin, an event is expected too.
+    fn request(&mut self, or_event: bool) -> Result<usize, String> {
+        let mut values = Vec::new();
+        for (number, field) in self.names.fields.iter().enumerate() {
+            let found = match self.peek().kind {
+                Kind::End => None,
+                _ => field.values.iter().position(|name| *name == self.peek().text),
+            };
+            let Some(value) = found else {
+                let mut what = format!("a value of the field {} ({})", quoted(&field.name), list(&field.values));
+                if !or_event && number == 0 {
+                    what = format!("a request, which begins with {what}");
+                }
+                if or_event && number == 0 && !self.names.events.is_empty() {
+                    what = format!("an event ({}) or {what}", list(&self.names.events));
+                }
+                return Err(self.expected(&what));
+            };
+            values.push(value);
+            self.at += 1;
+            if number + 1 < self.names.fields.len() {
+                self.skip_comma();
+            }
+        }
+        Ok(self.names.frame().request(&values))
+    }
+}
