@@ -19,8 +19,12 @@ pub struct Arguments {
     pub finding: Option<String>,
     /// `draw`: the path of these steps.
     pub after: Option<String>,
+    /// `draw`: also where there are many states.
+    pub whole: bool,
     /// `page`: what the columns stand for.
     pub key: bool,
+    /// `compare`: by the order of events and values, whatever their names are.
+    pub by_order: bool,
 }
 
 /// What the command line says.
@@ -102,6 +106,8 @@ fn option(
         "--after" => arguments.after = Some(value),
         "--json" => arguments.json = true,
         "--no-events" => arguments.no_events = true,
+        "--whole" => arguments.whole = true,
+        "--by-order" => arguments.by_order = true,
         _ => arguments.key = true,
     }
     Ok(())

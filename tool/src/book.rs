@@ -87,6 +87,48 @@ impl Book {
         (entry != 0).then_some(usize::from(entry))
     }
 
+    /// The states that some history leads to, in the order of the earliest ones;
+    /// each with the state and the code by which it is found.
+    fn found(&self) -> Vec<(usize, Option<(usize, u8)>)> {
+        let mut found = vec![(1, None)];
+        let mut visited = 0;
+        while visited < found.len() {
+            let (state, _) = found[visited];
+            for code in 0..self.frame.width() {
+                if let Some(to) = self.next(state, code) {
+                    if found.iter().all(|(other, _)| *other != to) {
+                        found.push((to, Some((state, code as u8))));
+                    }
+                }
+            }
+            visited += 1;
+        }
+        found
+    }
+
+    /// The states that some history leads to.
+    pub fn reached(&self) -> Vec<usize> {
+        self.found().into_iter().map(|(state, _)| state).collect()
+    }
+
+    /// The earliest history that leads to a state, nothing if none does.
+    pub fn history_to(&self, state: usize) -> Option<Vec<u8>> {
+        let found = self.found();
+        let mut history = Vec::new();
+        let mut at = state;
+        loop {
+            match found.iter().find(|(other, _)| *other == at)?.1 {
+                None => break,
+                Some((before, code)) => {
+                    history.push(code);
+                    at = before;
+                }
+            }
+        }
+        history.reverse();
+        Some(history)
+    }
+
     /// What a state says of a request.
     pub fn outcome(&self, state: usize, request: usize) -> Outcome {
         let possible = |accepted| {

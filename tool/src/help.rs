@@ -81,11 +81,14 @@ fn details(command: Command) -> &'static str {
   conflict   after some history a request may be both accepted and rejected
   missing    after some history a request is neither accepted nor rejected
   blocked    after some history no request is answered any more, whatever events follow
-each with the earliest history that proves it, a conflict with its rules; and which
-rules can be left out without changing the book.
+each with the earliest history that proves it, and with the other requests of which it
+is true after some history; a conflict with its rules. It also says which rules never
+apply or can be left out without changing the book, and notes what may have been
+forgotten: events that change nothing, variables that are not tested, never counted
+or never set to 0.
 
 Exit status: 0 no findings; 1 findings; 2 a file is refused. Rules that can be left out
-are no findings.
+and notes are no findings.
 
   policybook check rules.txt
   policybook check --names rules.txt old.book"
@@ -112,8 +115,10 @@ written in its standard layout, with its comments.
         }
         Command::Compare => {
             "Says whether every history is possible under both or under neither; otherwise the
-earliest history that is possible under just one, and under which. Events and values
-are compared by their order; where two texts name them differently, a warning says so.
+earliest history that is possible under just one, and under which. Two texts are
+compared by their names, in whatever order they declare them; where one has a name that
+the other has not, by their order only if --by-order asks for it. Policy files and books
+have no names, and are compared by their order.
 
 Exit status: 0 same; 1 different; 2 refused, also where events and values are not
 equally many.
@@ -121,13 +126,16 @@ equally many.
   policybook compare rules.txt draft.txt"
         }
         Command::After => {
-            "Says what is possible after some steps, or at the start where none are given. A STEP
-is an event's name, or a request's values and `accepted` or `rejected`, or a code.
-`twice` or `3 times` may follow a step, and commas may be there.
+            "Says what is possible after some steps, or at the start where none are given: where
+each request leads, and by which rules. A STEP is an event's name, or a request's values
+and `accepted` or `rejected`, or `code` and its number; `twice` or `3 times` may follow
+it, and commas may be there. `state 5` is the state with that number on the page or in
+the picture, after its earliest history.
 
 Exit status: 0; 2 where a step is not possible.
 
-  policybook after rules.txt reader copy accepted, midnight"
+  policybook after rules.txt reader copy accepted twice, midnight
+  policybook after rules.txt state 5"
         }
         Command::Way => {
             "Shows the earliest history after which a request has an outcome. A REQUEST is its
@@ -154,7 +162,9 @@ from one state to another share an arrow.
   --no-events       leave the events out
   --finding WHICH   only the path to a finding: conflict, missing or blocked
   --after STEPS     only the path of these steps, as `after` takes them, in quotes
-A book of over 30 states is drawn along a path only; its page shows it whole.
+  --whole           draw a book of over 30 states all the same
+A book of over 30 states is drawn along a path, unless --whole asks for all of it; its
+page is easier to read.
 
   policybook draw rules.txt -o rules.svg
   policybook draw --after 'reader copy accepted, midnight' rules.txt -o path.svg"

@@ -16,3 +16,4 @@ pub mod notation;
 pub mod output;
 pub mod policy;
 pub mod refusal;
+pub mod reorder;

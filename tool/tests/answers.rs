@@ -132,13 +132,55 @@ fn check_found(found: &Value, subject: &Subject, book: &Book, met: &mut Met) -> 
     expected.conflict.is_some() || expected.missing.is_some() || expected.blocked.is_some()
 }
 
+/// A refusal has a place. Where too much is counted it says how many valuations
+/// there are, or which two rules leave it open what was carried out.
+fn check_place(row: u8, place: &str, subject: &Subject) {
+    assert!(!place.is_empty(), "{}", subject.input);
+    if row != 10 && row != 11 {
+        return;
+    }
+    let policy = policybook::policy::Policy::decode(&subject.bytes).expect("a policy");
+    if row == 10 {
+        let tests = |variable: usize| policy.rules.iter().map(move |rule| rule.tests[variable]);
+        let bound = |variable| {
+            tests(variable)
+                .map(|test| test.at_least.max(test.below))
+                .max()
+        };
+        let values =
+            (0..policy.starts.len()).map(|variable| usize::from(bound(variable).unwrap_or(0)) + 1);
+        let valuations: usize = values.product();
+        assert!(
+            place.contains(&format!("= {valuations} valuations")),
+            "{}: {place}",
+            subject.input
+        );
+        return;
+    }
+    let digits = |rest: &str| {
+        rest.split(|letter: char| !letter.is_ascii_digit())
+            .next()?
+            .parse()
+            .ok()
+    };
+    let rules: Vec<usize> = place.split("rule ").skip(1).filter_map(digits).collect();
+    let [one, other] = [0, 1].map(|place| &policy.rules[rules[place] - 1]);
+    let mut masks = one.masks.iter().zip(&other.masks);
+    let together = masks.all(|(one, other)| one & other != 0) && one.level == other.level;
+    let forks = one.accepts == other.accepts && one.changes != other.changes;
+    assert!(together && forks, "{}: {place}", subject.input);
+}
+
 /// Checks what is said of a file; the status that it makes for.
 fn check_file(found: &Value, subject: &Subject, met: &mut Met) -> i32 {
     assert_eq!(found.get("file").text(), subject.file);
     for kind in ["text", "policy", "book"] {
         met.note(kind, subject.kind == kind);
     }
-    met.note("refused", subject.book().is_err());
+    let refused = subject.book().err();
+    for row in [6, 8, 9, 11, 13, 14, 17] {
+        met.note(&format!("row {row}"), refused == Some(row));
+    }
     if !subject.has_mark() && subject.kind != "text" || subject.has_wrong_mark() {
         assert!(
             found.find("states").is_none(),
@@ -157,7 +199,7 @@ fn check_file(found: &Value, subject: &Subject, met: &mut Met) -> i32 {
                 "{}",
                 subject.input
             );
-            assert!(!refused.get("place").text().is_empty(), "{}", subject.input);
+            check_place(row, refused.get("place").text(), subject);
             2
         }
     }

@@ -203,19 +203,31 @@ fn check_mistake(mistake: &Mistake, text: &str) {
         "{report}"
     );
     assert!(report.chars().all(is_harmless), "{report:?}");
-    if letters < 120
-        && line
-            .chars()
-            .all(|letter| letter == ' ' || letter.is_ascii_graphic())
+    if line
+        .chars()
+        .all(|letter| letter == ' ' || letter.is_ascii_graphic())
     {
-        let under = length.min((letters + 1 - column).max(1));
-        assert_eq!(shown, format!("    {}", line.trim_end()), "{report}");
-        assert_eq!(
-            mark,
-            format!("{}{}", " ".repeat(3 + column), "^".repeat(under)),
-            "{report}"
-        );
+        check_mark(mistake, line, shown, mark);
     }
+}
+
+/// Of a plain line: the mark is under the character that is meant, and a line of
+/// up to 119 characters is shown whole.
+fn check_mark(mistake: &Mistake, line: &str, shown: &str, mark: &str) {
+    let (column, letters) = (mistake.column, line.len());
+    let at = |line: &str, place: usize| line.chars().nth(place).unwrap_or(' ');
+    let first = mark.find('^').expect("a mark");
+    assert_eq!(at(shown, first), at(line, column - 1), "{shown}\n{mark}");
+    if letters < 120 {
+        let marks = mistake.length.min((letters + 1 - column).max(1));
+        assert_eq!(shown, format!("    {}", line.trim_end()));
+        assert_eq!(mark.len() - first, marks, "{shown}\n{mark}");
+        assert_eq!(first, 3 + column, "{shown}\n{mark}");
+    }
+    assert!(
+        shown.chars().count() < 130 && mark.len() < 130,
+        "{shown}\n{mark}"
+    );
 }
 
 /// A text that is read can be written, and says the same then.

@@ -47,7 +47,7 @@ fn whom_a_rule_is_for() {
             "rule raeder, open accept",
             6,
             "raeder",
-            "expected a value of the field person (reader, trainee, staff, or any), found `raeder`",
+            "expected a value of the field person (reader, trainee, staff, or any), found `raeder`: did you mean reader?",
         ),
         (
             "rule copy, reader accept",
@@ -134,10 +134,10 @@ fn what_a_rule_or_an_event_does() {
             "expected `copies + 1` or `copies to 0`, found `=`",
         ),
         (
-            "rules reader, copy accept",
+            "allow reader, copy",
             1,
-            "rules",
-            "expected `events`, `field`, `variables`, `rule` or `on`, found `rules`",
+            "allow",
+            "expected `events`, `field`, `variables`, `rule` or `on`, found `allow`",
         ),
     ]);
 }

@@ -170,7 +170,7 @@ fn histories_in_words_are_read_back() {
         met.note("times", words.contains(" times"));
         met.note("a name of digits alone", words.contains("\"7\""));
         assert_eq!(
-            parse_steps(&names, &[words.clone()]),
+            parse_steps(&names, std::slice::from_ref(&words)),
             Ok(history),
             "{words}"
         );

@@ -175,6 +175,28 @@ fn where_a_file_cannot_be_written_nothing_is_left() {
     );
 }
 
+/// What `compile` says of a policy that has no book is true.
+#[test]
+fn what_is_not_written_is_not_said_to_be() {
+    let folder = folder("said");
+    let large = "field a = b, c\nvariables v, w\nrule any when v < 60 and w < 60 accept\n";
+    folder.file("large.txt", large);
+    for (out, status) in [("out", 0), ("nowhere/out", 2), ("/dev/full", 2)] {
+        let ran = run_into(
+            &["compile", "large.txt", "-o", out],
+            &folder,
+            Stdio::piped(),
+        );
+        assert_eq!(ran.status, status, "{}", ran.errors);
+        assert_eq!(
+            ran.errors.contains("is written"),
+            status == 0,
+            "{}",
+            ran.errors
+        );
+    }
+}
+
 /// A file may have at most 512 bytes here, as on a disk that is full.
 #[test]
 fn a_file_that_would_not_be_whole_does_not_appear() {

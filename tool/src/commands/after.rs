@@ -1,13 +1,18 @@
-//! `after`: what is possible next after some steps.
+//! `after`: what is possible next after some steps, where it leads, and by which
+//! rules.
+
+use std::collections::BTreeSet;
 
 use super::{after_words, answer, one_standard_input, request_json, subject, Answer, Command};
 use crate::arguments::{wrong, Arguments};
 use crate::book::Outcome;
 use crate::draw::cover;
+use crate::explain::{deciding_rules, situation, Deciding};
 use crate::frame::Step;
 use crate::input::{Failure, Subject};
 use crate::json::Json;
 use crate::notation::parse_steps;
+use crate::refusal::rule_place;
 
 pub fn after(arguments: &Arguments) -> Result<Answer, Failure> {
     one_standard_input(arguments, Command::After)?;
@@ -15,12 +20,37 @@ pub fn after(arguments: &Arguments) -> Result<Answer, Failure> {
         return Err(wrong("no file is named", Some(Command::After)));
     };
     let subject = subject(file, arguments)?;
-    let steps = parse_steps(&subject.names, words).map_err(|message| wrong(&message, Some(Command::After)))?;
+    let steps = match state_asked(&subject, words) {
+        Some(state) => history_to(&subject, state)?,
+        None => parse_steps(&subject.names, words).map_err(|message| wrong(&message, Some(Command::After)))?,
+    };
     let states = walk(&subject, &steps)?;
     let state = states.last().copied().unwrap_or(1);
-    let words = words_of(&subject, &steps, state);
+    let words = Page::new(&subject, &steps, state).words(&steps);
     let json = json_of(&subject, &steps, &states, state);
     Ok(answer(arguments, 0, words, json))
+}
+
+/// The state that the words `state 14` name, unless `state` is a name.
+fn state_asked(subject: &Subject, words: &[String]) -> Option<usize> {
+    let names = &subject.names;
+    let [word, number] = words else { return None };
+    let is_name = names.events.iter().chain(names.fields.iter().flat_map(|field| &field.values)).any(|name| name == word);
+    match word == "state" && !is_name {
+        true => number.parse().ok(),
+        false => None,
+    }
+}
+
+/// The earliest history that leads to a state.
+fn history_to(subject: &Subject, state: usize) -> Result<Vec<u8>, Failure> {
+    let states = subject.book.states();
+    if state == 0 || state > states {
+        return Err(Failure::refused(&[&subject.document.name], 16, format!("the state is {state}; there are 1 to {states}")));
+    }
+    subject.book.history_to(state).ok_or_else(|| {
+        Failure::of_use(format!("{}: no history leads to state {state}", subject.document.name))
+    })
 }
 
 /// The state after each step.
@@ -44,36 +74,113 @@ pub fn walk(subject: &Subject, steps: &[u8]) -> Result<Vec<usize>, Failure> {
     Ok(states)
 }
 
-fn words_of(subject: &Subject, steps: &[u8], state: usize) -> String {
-    let (book, names) = (&subject.book, &subject.names);
-    let mut lines = vec![format!("{}: state {state} of {}", after_words(names, steps), book.states())];
-    let titles = [
-        (Outcome::Accept, "accepted"),
-        (Outcome::Reject, "rejected"),
-        (Outcome::Both, "accepted or rejected (conflict)"),
-        (Outcome::Unanswered, "unanswered"),
-    ];
-    for (outcome, title) in titles {
-        let requests: Vec<usize> = (0..book.frame().requests()).filter(|&request| book.outcome(state, request) == outcome).collect();
-        if requests.is_empty() {
-            continue;
-        }
-        lines.push(format!("  {title}:"));
-        for product in cover::cover(book.frame(), &requests) {
-            lines.push(format!("    {}", cover::words(names, &product)));
-        }
-    }
-    if book.frame().events > 0 {
-        lines.push("  events:".to_string());
-    }
-    for event in 0..book.frame().events {
-        let to = match book.next(state, event) {
-            Some(to) if to == state => "stays here".to_string(),
-            to => format!("to state {}", to.unwrap_or(0)),
+/// What one request, or several alike, may come to: the outcome, where it leads,
+/// and the rules.
+#[derive(PartialEq, Eq, PartialOrd, Ord)]
+struct Fate {
+    outcome: Outcome,
+    accepted: Option<usize>,
+    rejected: Option<usize>,
+    rules: Option<Deciding>,
+}
+
+/// What is said of a state.
+struct Page<'a> {
+    subject: &'a Subject,
+    state: usize,
+    /// For each request.
+    fates: Vec<Fate>,
+}
+
+impl Page<'_> {
+    fn new<'a>(subject: &'a Subject, steps: &[u8], state: usize) -> Page<'a> {
+        let book = &subject.book;
+        let situation = subject.policy.as_ref().map(|policy| (policy, situation(policy, steps)));
+        let to = |request, accepted| book.next(state, book.frame().code(Step::Decided { request, accepted }));
+        let fate = |request| Fate {
+            outcome: book.outcome(state, request),
+            accepted: to(request, true),
+            rejected: to(request, false),
+            rules: situation.as_ref().map(|(policy, situation)| deciding_rules(policy, situation, request)),
         };
-        lines.push(format!("    {} {to}", names.event(event)));
+        Page { subject, state, fates: (0..book.frame().requests()).map(fate).collect() }
     }
-    lines.join("\n") + "\n"
+
+    fn words(&self, steps: &[u8]) -> String {
+        let (book, names) = (&self.subject.book, &self.subject.names);
+        let mut lines = vec![format!("{}: state {} of {}", after_words(names, steps), self.state, book.states())];
+        let titles = [
+            (Outcome::Accept, "accepted"),
+            (Outcome::Reject, "rejected"),
+            (Outcome::Both, "accepted or rejected (conflict)"),
+            (Outcome::Unanswered, "unanswered"),
+        ];
+        let rows: Vec<(Outcome, [String; 3])> = titles.iter().flat_map(|(outcome, _)| self.rows(*outcome)).collect();
+        let width = |column: usize| rows.iter().map(|(_, row)| row[column].chars().count()).max().unwrap_or(0);
+        let widths = [width(0), width(1)];
+        for (outcome, title) in titles {
+            let mut own = rows.iter().filter(|(other, _)| *other == outcome).peekable();
+            if own.peek().is_some() {
+                lines.push(format!("  {title}:"));
+            }
+            lines.extend(own.map(|(_, [who, to, by])| {
+                format!("    {who:<first$}  {to:<second$}  {by}", first = widths[0], second = widths[1]).trim_end().to_string()
+            }));
+        }
+        lines.extend(self.event_lines());
+        lines.join("\n") + "\n"
+    }
+
+    /// The requests with an outcome: alike ones together, where they lead, and the
+    /// rules.
+    fn rows(&self, outcome: Outcome) -> Vec<(Outcome, [String; 3])> {
+        let kinds: BTreeSet<&Fate> = self.fates.iter().filter(|fate| fate.outcome == outcome).collect();
+        let mut rows = Vec::new();
+        for fate in kinds {
+            let requests: Vec<usize> = (0..self.fates.len()).filter(|&request| self.fates[request] == *fate).collect();
+            for product in cover::cover(self.subject.book.frame(), &requests) {
+                let who = cover::words(&self.subject.names, &product);
+                rows.push((outcome, [who, self.where_to(fate), self.by_rules(fate)]));
+            }
+        }
+        rows
+    }
+
+    fn to_state(&self, to: usize) -> String {
+        match to == self.state {
+            true => "stays here".to_string(),
+            false => format!("to state {to}"),
+        }
+    }
+
+    fn where_to(&self, fate: &Fate) -> String {
+        match (fate.accepted, fate.rejected) {
+            (Some(accepted), Some(rejected)) => format!("accepted {}, rejected {}", self.to_state(accepted), self.to_state(rejected)),
+            (Some(to), None) | (None, Some(to)) => self.to_state(to),
+            (None, None) => String::new(),
+        }
+    }
+
+    fn by_rules(&self, fate: &Fate) -> String {
+        let Some(rules) = &fate.rules else {
+            return String::new();
+        };
+        let places = rules.accepting.union(&rules.rejecting);
+        let places: Vec<String> = places.map(|&rule| rule_place(rule, self.subject.document.rule_lines())).collect();
+        places.join(", ")
+    }
+
+    fn event_lines(&self) -> Vec<String> {
+        let (book, names) = (&self.subject.book, &self.subject.names);
+        let events: Vec<String> = (0..book.frame().events).map(|event| names.event(event)).collect();
+        let width = events.iter().map(|name| name.chars().count()).max().unwrap_or(0);
+        let line = |(event, name): (usize, &String)| {
+            let to = book.next(self.state, event).map_or(String::new(), |to| self.to_state(to));
+            format!("    {name:<width$}  {to}")
+        };
+        let title = (!events.is_empty()).then(|| "  events:".to_string());
+        title.into_iter().chain(events.iter().enumerate().map(line)).collect()
+    }
 }
 
 fn json_of(subject: &Subject, steps: &[u8], states: &[usize], state: usize) -> Json {
@@ -82,8 +189,14 @@ fn json_of(subject: &Subject, steps: &[u8], states: &[usize], state: usize) -> J
         let code = usize::from(code);
         Json::Object(vec![("code", code.into()), ("name", names.step(code).into()), ("state", to.into())])
     };
+    let to = |request, accepted| Json::from(book.next(state, book.frame().code(Step::Decided { request, accepted })));
     let request = |request: usize| {
-        Json::Object(vec![("request", request_json(names, request)), ("outcome", book.outcome(state, request).word().into())])
+        Json::Object(vec![
+            ("request", request_json(names, request)),
+            ("outcome", book.outcome(state, request).word().into()),
+            ("accepted_to", to(request, true)),
+            ("rejected_to", to(request, false)),
+        ])
     };
     let event = |event: usize| {
         Json::Object(vec![("event", event.into()), ("name", names.event(event).into()), ("state", book.next(state, event).into())])

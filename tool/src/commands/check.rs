@@ -1,17 +1,18 @@
-//! `check`: the findings on policies and books in words, and the rules that can
-//! be left out without changing the book.
+//! `check`: the findings on policies and books in words, the rules that can be
+//! left out without changing the book, and what may have been forgotten.
 
 use std::collections::BTreeSet;
 
 use super::{count, given, history_json, one_standard_input, request_json, Answer, Command};
 use crate::arguments::{wrong, Arguments};
 use crate::book::Outcome;
-use crate::explain::{deciding_rules, Deciding};
+use crate::draw::cover;
+use crate::explain::{deciding_rules, idle, remarks, situation, Deciding, Idle};
 use crate::input::{read, Failure, Given, Subject};
 use crate::json::Json;
 use crate::library::{self, Finding, Findings};
 use crate::names::Names;
-use crate::notation::rule_words;
+use crate::notation::{quoted, rule_words};
 use crate::policy::Policy;
 use crate::refusal::rule_place;
 
@@ -50,30 +51,35 @@ struct Checked {
     findings: Findings,
     /// The rules behind the conflict, if there is one and the file has rules.
     deciding: Option<Deciding>,
-    /// The rules that can be left out, each by itself; from 0.
-    superfluous: Vec<usize>,
+    /// The rules that can be left out, each by itself, from 0; and why.
+    superfluous: Vec<(usize, Idle)>,
     /// Whether all of them can be left out together.
     together: bool,
+    remarks: Vec<String>,
 }
 
 fn check_file(file: &str, given: Option<&Given>) -> Result<Checked, Failure> {
     let subject = read(file)?.subject(given)?;
     let findings = subject.findings()?;
-    let (superfluous, together) = match &subject.policy {
-        None => (Vec::new(), false),
-        Some(policy) => superfluous_rules(policy, subject.book.bytes()),
+    let mut checked = Checked { subject, findings, deciding: None, superfluous: Vec::new(), together: false, remarks: Vec::new() };
+    let Some(policy) = &checked.subject.policy else {
+        return Ok(checked);
     };
-    let deciding = match (&subject.policy, &findings.conflict) {
-        (Some(policy), Some(conflict)) => Some(rules_of(&subject, policy, conflict)?),
-        _ => None,
-    };
-    Ok(Checked { subject, findings, deciding, superfluous, together })
+    if let Some(conflict) = &checked.findings.conflict {
+        checked.deciding = Some(rules_of(&checked.subject, policy, conflict)?);
+    }
+    (checked.superfluous, checked.together) = superfluous_rules(policy, checked.subject.book.bytes());
+    if !policy.rules.is_empty() {
+        let names = &checked.subject.names;
+        checked.remarks = remarks(policy, |event| names.event(event), |variable| quoted(&names.variables[variable]));
+    }
+    Ok(checked)
 }
 
 /// The rules that accept and reject the request of a conflict. Some of each must
 /// be found, or the tool is wrong.
 fn rules_of(subject: &Subject, policy: &Policy, conflict: &Finding) -> Result<Deciding, Failure> {
-    let deciding = deciding_rules(policy, &conflict.history, conflict.request);
+    let deciding = deciding_rules(policy, &situation(policy, &conflict.history), conflict.request);
     match deciding.accepting.is_empty() || deciding.rejecting.is_empty() {
         true => Err(Failure::of_use(format!(
             "{}: an error of this tool: the library finds a conflict, and the tool not its rules; please report it with the file",
@@ -84,13 +90,13 @@ fn rules_of(subject: &Subject, policy: &Policy, conflict: &Finding) -> Result<De
 }
 
 /// The rules without which the book is the same byte for byte.
-fn superfluous_rules(policy: &Policy, book: &[u8]) -> (Vec<usize>, bool) {
+fn superfluous_rules(policy: &Policy, book: &[u8]) -> (Vec<(usize, Idle)>, bool) {
     let same_without = |rules: &[usize]| {
         library::build(&policy.without(rules).encode()).is_ok_and(|other| library::same_bytes(&other, book))
     };
     let alone: Vec<usize> = (0..policy.rules.len()).filter(|&rule| same_without(&[rule])).collect();
     let together = alone.len() > 1 && same_without(&alone);
-    (alone, together)
+    (alone.into_iter().map(|rule| (rule, idle(policy, rule))).collect(), together)
 }
 
 impl Checked {
@@ -105,9 +111,11 @@ impl Checked {
         if let Some(finding) = &self.findings.conflict {
             lines.push(format!("  conflict: {}", of_request(names, finding, Outcome::Both)));
             lines.extend(self.deciding.as_ref().map(|deciding| format!("            {}", self.deciding_words(deciding))));
+            lines.extend(self.further(finding.request, Outcome::Both));
         }
         if let Some(finding) = &self.findings.missing {
             lines.push(format!("  missing:  {}", of_request(names, finding, Outcome::Unanswered)));
+            lines.extend(self.further(finding.request, Outcome::Unanswered));
         }
         if let Some(finding) = &self.findings.blocked {
             lines.push(format!("  blocked:  {}", blocked_words(names, finding)));
@@ -116,6 +124,7 @@ impl Checked {
             lines.push("  no findings: after every history each request is either accepted or rejected".to_string());
         }
         lines.extend(self.superfluous_words());
+        lines.extend(self.remarks.iter().map(|remark| format!("  note: {remark}")));
         lines.join("\n") + "\n"
     }
 
@@ -127,6 +136,17 @@ impl Checked {
         }
     }
 
+    /// The other requests that have an outcome after some history.
+    fn further(&self, but: usize, outcome: Outcome) -> Option<String> {
+        let book = &self.subject.book;
+        let states = book.reached();
+        let somewhere = |&request: &usize| request != but && states.iter().any(|&state| book.outcome(state, request) == outcome);
+        let requests: Vec<usize> = (0..book.frame().requests()).filter(somewhere).collect();
+        let products = cover::cover(book.frame(), &requests);
+        let words: Vec<String> = products.iter().map(|product| cover::words(&self.subject.names, product)).collect();
+        (!words.is_empty()).then(|| format!("            and after some history: {}", words.join("; ")))
+    }
+
     /// Which rules accept, and which reject.
     fn deciding_words(&self, deciding: &Deciding) -> String {
         let side = |rules: &BTreeSet<usize>, verb: &str| {
@@ -134,7 +154,8 @@ impl Checked {
             let ending = if places.len() == 1 { "s" } else { "" };
             format!("{} {verb}{ending}", places.join(" and "))
         };
-        format!("{}; {}", side(&deciding.accepting, "accept"), side(&deciding.rejecting, "reject"))
+        let depends = if deciding.at_once { "" } else { ", depending on which rule was carried out before" };
+        format!("{}; {}{depends}", side(&deciding.accepting, "accept"), side(&deciding.rejecting, "reject"))
     }
 
     fn superfluous_words(&self) -> Vec<String> {
@@ -144,14 +165,19 @@ impl Checked {
         let mut lines: Vec<String> = self
             .superfluous
             .iter()
-            .map(|&rule| {
+            .map(|&(rule, why)| {
+                let why = match why {
+                    Idle::Tests => "never applies, since its tests are never true",
+                    Idle::Level => "never applies, since a rule of a greater level always goes before it",
+                    Idle::Others => "can be left out without changing the book",
+                };
                 let place = rule_place(rule, self.subject.document.rule_lines());
-                format!("  {place} can be left out: {}", rule_words(&policy.rules[rule], &self.subject.names))
+                format!("  {place} {why}: {}", rule_words(&policy.rules[rule], &self.subject.names))
             })
             .collect();
         if lines.len() > 1 {
-            let how = if self.together { "all of these together, too" } else { "each by itself, but not all of these together" };
-            lines.push(format!("  {how}"));
+            let how = if self.together { "also all together" } else { "each by itself, but not all together" };
+            lines.push(format!("  these can be left out {how}"));
         }
         lines
     }
@@ -159,7 +185,13 @@ impl Checked {
     fn json(&self) -> Json {
         let names = &self.subject.names;
         let lines = self.subject.document.rule_lines();
-        let rule = |&rule: &usize| Json::Object(vec![("rule", (rule + 1).into()), ("line", lines.map(|lines| lines[rule]).into())]);
+        let members = |rule: usize| vec![("rule", (rule + 1).into()), ("line", lines.map(|lines| lines[rule]).into())];
+        let rule = |&rule: &usize| Json::Object(members(rule));
+        let idle_rule = |&(rule, why): &(usize, Idle)| {
+            let mut members: Vec<(&str, Json)> = members(rule);
+            members.push(("why", idle_word(why).into()));
+            Json::Object(members)
+        };
         let finding = |finding: &Option<Finding>, with_request: bool, rules: Option<&Deciding>| {
             finding.as_ref().map_or(Json::Null, |finding| {
                 let request = with_request.then(|| ("request", request_json(names, finding.request)));
@@ -180,9 +212,18 @@ impl Checked {
             ("conflict", finding(&self.findings.conflict, true, self.deciding.as_ref())),
             ("missing", finding(&self.findings.missing, true, None)),
             ("blocked", finding(&self.findings.blocked, false, None)),
-            ("superfluous", self.superfluous.iter().map(rule).collect()),
+            ("superfluous", self.superfluous.iter().map(idle_rule).collect()),
             ("superfluous_together", self.together.into()),
+            ("notes", self.remarks.iter().cloned().collect()),
         ])
+    }
+}
+
+fn idle_word(why: Idle) -> &'static str {
+    match why {
+        Idle::Tests => "tests",
+        Idle::Level => "level",
+        Idle::Others => "others",
     }
 }
 

@@ -12,20 +12,29 @@ use crate::notation::parse_steps;
 pub fn draw(arguments: &Arguments) -> Result<Answer, Failure> {
     let file = one_file(arguments, Command::Draw)?;
     one_standard_input(arguments, Command::Draw)?;
+    if let Some(name) = arguments.output.as_deref().filter(|name| is_other_picture(name)) {
+        return Err(wrong(&format!("the picture is SVG; {name} is named as another kind"), Some(Command::Draw)));
+    }
     let subject = subject(file, arguments)?;
     let path = path(&subject, arguments)?;
     let states = subject.book.states();
-    if path.is_none() && states > MOST_STATES {
+    if path.is_none() && states > MOST_STATES && !arguments.whole {
         let states = count(states, "state");
         let finding = first_finding(&subject)?.map_or(String::new(), |which| format!("\n    the path to a finding: policybook draw --finding {which} {file}"));
         return Err(Failure::of_use(format!(
-            "{file}: its book has {states}, too many for one picture that can be read (at most {MOST_STATES})\n    the page shows them all: policybook page {file}\n    the path of some steps: policybook draw --after 'STEPS' {file}{finding}"
+            "{file}: its book has {states}, too many for one picture that can be read (at most {MOST_STATES})\n    the page shows them all: policybook page {file}\n    the path of some steps: policybook draw --after 'STEPS' {file}{finding}\n    all the same, on a large sheet: policybook draw --whole {file}"
         )));
     }
     let title = Path::new(file).file_name().map_or(file.into(), |name| name.to_string_lossy());
     let options = Options { title: &title, events: !arguments.no_events, path: path.as_deref() };
     let output = picture(&subject.book, &subject.names, &options).into_bytes();
     Ok(Answer { output, binary: true, ..Answer::default() })
+}
+
+/// Whether a file is named as a picture of another kind.
+fn is_other_picture(name: &str) -> bool {
+    let ending = Path::new(name).extension().map(|ending| ending.to_string_lossy().to_lowercase());
+    ending.is_some_and(|ending| ["gif", "jpeg", "jpg", "pdf", "png", "webp"].contains(&ending.as_str()))
 }
 
 /// The history to draw, if one is asked for.

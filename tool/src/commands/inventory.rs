@@ -7,14 +7,19 @@ use std::time::{Duration, Instant};
 
 use super::{count, one_standard_input, Answer, Command};
 use crate::arguments::{wrong, Arguments};
-use crate::input::{read, Failure};
+use crate::input::{read, Failure, Subject};
 use crate::json::Json;
 use crate::library;
+use crate::names::Names;
 
 /// Books that are equal, and the files that have them.
 struct Group<'a> {
     book: Vec<u8>,
     files: Vec<&'a str>,
+    /// The first text among the files, with its names.
+    named: Option<(&'a str, Names)>,
+    /// The texts that have other names than that one.
+    otherwise: Vec<&'a str>,
 }
 
 pub fn inventory(arguments: &Arguments) -> Result<Answer, Failure> {
@@ -28,7 +33,7 @@ pub fn inventory(arguments: &Arguments) -> Result<Answer, Failure> {
     for (number, file) in arguments.words.iter().enumerate() {
         progress.show(number);
         match read(file).and_then(|document| document.subject(None)) {
-            Ok(subject) => groups.add(file, subject.book.bytes()),
+            Ok(subject) => groups.add(file, &subject),
             Err(failure) => failures.push(failure),
         }
     }
@@ -45,6 +50,17 @@ pub fn inventory(arguments: &Arguments) -> Result<Answer, Failure> {
     })
 }
 
+impl<'a> Group<'a> {
+    fn add(&mut self, file: &'a str, names: Option<&Names>) {
+        self.files.push(file);
+        match (&self.named, names) {
+            (None, Some(names)) => self.named = Some((file, names.clone())),
+            (Some((_, first)), Some(names)) if first.events != names.events || first.fields != names.fields => self.otherwise.push(file),
+            _ => {}
+        }
+    }
+}
+
 /// The groups so far, in the order of their first files.
 #[derive(Default)]
 struct Groups<'a> {
@@ -55,18 +71,18 @@ struct Groups<'a> {
 }
 
 impl<'a> Groups<'a> {
-    fn add(&mut self, file: &'a str, book: &[u8]) {
+    fn add(&mut self, file: &'a str, subject: &Subject) {
+        let book = subject.book.bytes();
         let mut hasher = DefaultHasher::new();
         book.hash(&mut hasher);
         let candidates = self.by_checksum.entry(hasher.finish()).or_default();
-        let equal = candidates.iter().find(|&&group| library::same_bytes(&self.groups[group].book, book));
-        match equal {
-            Some(&group) => self.groups[group].files.push(file),
-            None => {
-                candidates.push(self.groups.len());
-                self.groups.push(Group { book: book.to_vec(), files: vec![file] });
-            }
-        }
+        let equal = candidates.iter().find(|&&group| library::same_bytes(&self.groups[group].book, book)).copied();
+        let group = equal.unwrap_or_else(|| {
+            candidates.push(self.groups.len());
+            self.groups.push(Group { book: book.to_vec(), files: Vec::new(), named: None, otherwise: Vec::new() });
+            self.groups.len() - 1
+        });
+        self.groups[group].add(file, subject.named.then_some(&subject.names));
     }
 
     fn words(&self, failures: usize) -> String {
@@ -74,6 +90,9 @@ impl<'a> Groups<'a> {
         for group in self.groups.iter().filter(|group| group.files.len() > 1) {
             lines.push(format!("{} equal books of {}:", group.files.len(), count(usize::from(group.book[11]), "state")));
             lines.extend(group.files.iter().map(|file| format!("  {file}")));
+            if let (Some((first, _)), false) = (&group.named, group.otherwise.is_empty()) {
+                lines.push(format!("  equal as books, but with other names than in {first}: {}", group.otherwise.join(", ")));
+            }
         }
         let single: Vec<&str> = self.groups.iter().filter(|group| group.files.len() == 1).map(|group| group.files[0]).collect();
         if !single.is_empty() {
@@ -91,6 +110,7 @@ impl<'a> Groups<'a> {
             Json::Object(vec![
                 ("states", usize::from(group.book[11]).into()),
                 ("files", group.files.iter().copied().collect()),
+                ("other_names", group.otherwise.iter().copied().collect()),
             ])
         };
         Json::Object(vec![

@@ -10,6 +10,8 @@ mod page;
 mod print;
 mod way;
 
+use std::fs;
+
 use crate::arguments::{wrong, Arguments};
 use crate::input::{read, Failure, Given, Subject};
 use crate::json::Json;
@@ -71,11 +73,11 @@ impl Command {
             Command::Build => "build [-o BOOK] FILE",
             Command::Compile => "compile [-o POLICY] FILE",
             Command::Print => "print [--names FILE] [-o TEXT] FILE",
-            Command::Compare => "compare [--names FILE] [--json] [-o FILE] FILE FILE",
-            Command::After => "after [--names FILE] [--json] [-o FILE] FILE [STEP..]",
+            Command::Compare => "compare [--by-order] [--names FILE] [--json] [-o FILE] FILE FILE",
+            Command::After => "after [--names FILE] [--json] [-o FILE] FILE [STEP.. | state NUMBER]",
             Command::Way => "way [--names FILE] [--json] [-o FILE] FILE REQUEST OUTCOME",
             Command::Page => "page [--key] [--names FILE] [--json] [-o FILE] FILE",
-            Command::Draw => "draw [--names FILE] [--no-events] [--finding WHICH | --after STEPS] [-o SVG] FILE",
+            Command::Draw => "draw [--names FILE] [-o SVG] [OPTION..] FILE",
             Command::Inventory => "inventory [--json] [-o FILE] FILE..",
         }
     }
@@ -84,14 +86,16 @@ impl Command {
         match self {
             Command::Build | Command::Compile => &["--output"],
             Command::Print => &["--names", "--output"],
-            Command::Draw => &["--names", "--output", "--no-events", "--finding", "--after"],
+            Command::Draw => &["--names", "--output", "--no-events", "--whole", "--finding", "--after"],
             Command::Page => &["--names", "--json", "--output", "--key"],
             Command::Inventory => &["--json", "--output"],
-            Command::Check | Command::Compare | Command::After | Command::Way => &["--names", "--json", "--output"],
+            Command::Compare => &["--names", "--json", "--output", "--by-order"],
+            Command::Check | Command::After | Command::Way => &["--names", "--json", "--output"],
         }
     }
 
     pub fn run(self, arguments: &Arguments) -> Result<Answer, Failure> {
+        self.keeps_input(arguments)?;
         match self {
             Command::Check => check::check(arguments),
             Command::Build => build::build(arguments),
@@ -107,6 +111,25 @@ impl Command {
     }
 }
 
+impl Command {
+    /// That no file is written over one that is read, but by `print`, which writes
+    /// the same rules.
+    fn keeps_input(self, arguments: &Arguments) -> Result<(), Failure> {
+        let Some(output) = arguments.output.as_deref().and_then(|output| fs::canonicalize(output).ok()) else {
+            return Ok(());
+        };
+        let is_file = fs::metadata(&output).is_ok_and(|data| data.is_file());
+        let mut read = arguments.words.iter().chain(&arguments.names);
+        let same = read.find(|word| fs::canonicalize(word).is_ok_and(|path| path == output));
+        match same {
+            Some(word) if is_file && self != Command::Print => {
+                Err(wrong(&format!("{word} is read, and would be written over; name another file after -o"), Some(self)))
+            }
+            _ => Ok(()),
+        }
+    }
+}
+
 /// The names given by `--names`.
 fn given(arguments: &Arguments) -> Result<Option<Given>, Failure> {
     arguments.names.as_deref().map(Given::read).transpose()
@@ -117,7 +140,13 @@ fn one_file(arguments: &Arguments, command: Command) -> Result<&str, Failure> {
     match &arguments.words[..] {
         [file] => Ok(file),
         [] => Err(wrong("no file is named", Some(command))),
-        _ => Err(wrong("one file is expected, and more are named", Some(command))),
+        [_, more, ..] => {
+            let hint = match command {
+                Command::Draw => "the picture is written to the file after -o, and the steps of --after stand in quotes",
+                _ => "the file to write stands after -o",
+            };
+            Err(wrong(&format!("one file is expected, and `{more}` is one more; {hint}"), Some(command)))
+        }
     }
 }
 

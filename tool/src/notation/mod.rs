@@ -1,9 +1,11 @@
 //! Rules as text: reading a text into a policy and its names, and writing a
 //! policy as a text in its standard layout. docs/NOTATION.md has the grammar.
 
+mod hints;
 mod mistake;
 mod parse;
 mod print;
+mod rules;
 mod statements;
 mod steps;
 mod token;

@@ -76,6 +76,11 @@ impl Parser {
         token
     }
 
+    /// Goes back before the last token.
+    pub fn put_back(&mut self) {
+        self.at -= 1;
+    }
+
     /// Takes the next token if it is this word or sign.
     pub fn take_if(&mut self, text: &str) -> bool {
         let found = self.peek().is(text);
@@ -96,6 +101,10 @@ impl Parser {
     /// The same, with a word on why.
     pub fn expected_since(&self, what: &str, why: &str) -> Mistake {
         let found = self.peek();
+        let why = match found.text.as_str() {
+            "“" | "”" | "„" | "«" | "»" if found.kind == Kind::Sign => "names stand in straight quotes, \"\"",
+            _ => why,
+        };
         if let Kind::Bad(message) = &found.kind {
             return found.mistake(message.clone());
         }

@@ -8,8 +8,8 @@ use crate::names::Names;
 const MOST_STEPS: usize = 10_000;
 
 /// The codes of the steps that these words say: an event's name; a request's
-/// values and what was decided; or a code; each may be followed by `twice` or
-/// `3 times`. Commas between steps, and between values, may be there.
+/// values and what was decided; or `code` and its number; each may be followed by
+/// `twice` or `3 times`. Commas between steps, and between values, may be there.
 pub fn parse_steps(names: &Names, words: &[String]) -> Result<Vec<u8>, String> {
     let mut reader = Reader::new(names, words)?;
     let mut codes = Vec::new();
@@ -116,12 +116,11 @@ impl Reader<'_> {
     fn step(&mut self) -> Result<usize, String> {
         let token = self.peek().clone();
         let frame = self.names.frame();
-        if let Kind::Number(code) = token.kind {
-            if code as usize >= frame.width() {
-                return Err(format!("the codes of the steps are 0 to {}; found `{code}`", frame.width() - 1));
-            }
-            self.at += 1;
-            return Ok(code as usize);
+        if let Kind::Number(number) = token.kind {
+            return Err(format!("expected a step; found `{number}`: how often a step is taken is said as `{number} times` behind it, and a step by its code as `code {number}`"));
+        }
+        if token.kind == Kind::Name && token.text == "code" && !is_name(self.names, "code") {
+            return self.code();
         }
         if token.kind != Kind::End {
             if let Some(event) = self.names.events.iter().position(|name| *name == token.text) {
@@ -130,6 +129,7 @@ impl Reader<'_> {
             }
         }
         let request = self.request(true)?;
+        self.skip_comma();
         let accepted = match self.peek().text.as_str() {
             "accept" | "accepted" => true,
             "reject" | "rejected" => false,
@@ -137,6 +137,19 @@ impl Reader<'_> {
         };
         self.at += 1;
         Ok(frame.code(Step::Decided { request, accepted }))
+    }
+
+    /// A step by its code, a number behind the word `code`.
+    fn code(&mut self) -> Result<usize, String> {
+        self.at += 1;
+        let most = self.names.frame().width() - 1;
+        match self.peek().kind {
+            Kind::Number(code) if code as usize <= most => {
+                self.at += 1;
+                Ok(code as usize)
+            }
+            _ => Err(self.expected(&format!("a code from 0 to {most}"))),
+        }
     }
 
     /// A request by its values. Where a step may begin, an event is expected too.

@@ -42,7 +42,7 @@ impl Subject {
                 generate::late_finding_book(number),
                 format!("generate late-finding-book {number}"),
             ),
-            _ => policy_file(number / 8),
+            rest => policy_file(number / 8 * 4 + rest - rest / 3),
         };
         Subject::of(kind, bytes, input, number, folder)
     }

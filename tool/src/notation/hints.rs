@@ -1,0 +1,78 @@
+//! What a writer may have meant: names that are nearly those that are there, and
+//! words that stand in the wrong place.
+
+use super::token::quoted;
+use crate::names::Names;
+
+/// `did you mean ..?` for a word that is nearly one of these, else nothing.
+pub fn did_you_mean<'a>(word: &str, candidates: impl IntoIterator<Item = &'a str>) -> String {
+    let near = candidates.into_iter().map(|candidate| (distance(word, candidate), candidate));
+    let allowed = if word.chars().count() < 5 { 1 } else { 2 };
+    let nearest = near.filter(|&(distance, _)| distance <= allowed).min_by_key(|&(distance, _)| distance);
+    nearest.map_or(String::new(), |(_, candidate)| format!("did you mean {}?", quoted(candidate)))
+}
+
+/// The same as the end of a message.
+pub fn closest(word: &str, candidates: &[String]) -> String {
+    match did_you_mean(word, candidates.iter().map(String::as_str)) {
+        hint if hint.is_empty() => hint,
+        hint => format!(": {hint}"),
+    }
+}
+
+/// Why a value cannot stand for a field: it is one of another field.
+pub fn of_other_field(names: &Names, field: usize, word: &str) -> String {
+    let other = names.fields.iter().position(|other| other.values.iter().any(|value| value == word));
+    match other {
+        Some(other) if other != field => {
+            let how = match other < field {
+                true => "values of one field are joined by `or`".to_string(),
+                false => {
+                    let order: Vec<String> = names.fields.iter().map(|field| quoted(&field.name)).collect();
+                    format!("a rule has a part for each field, in their order: {}", order.join(", "))
+                }
+            };
+            format!("{} is a value of the field {}; {how}", quoted(word), quoted(&names.fields[other].name))
+        }
+        _ => did_you_mean(word, names.fields[field].values.iter().map(String::as_str).chain(["any"])),
+    }
+}
+
+/// How many letters must be put in, left out or changed to come from one word to
+/// the other; capital and small letters count as the same.
+fn distance(one: &str, other: &str) -> usize {
+    let letters = |word: &str| word.to_lowercase().chars().collect::<Vec<char>>();
+    let (one, other) = (letters(one), letters(other));
+    let mut row: Vec<usize> = (0..=other.len()).collect();
+    for (i, letter) in one.iter().enumerate() {
+        let mut diagonal = row[0];
+        row[0] = i + 1;
+        for (j, opposite) in other.iter().enumerate() {
+            let changed = diagonal + usize::from(letter != opposite);
+            diagonal = row[j + 1];
+            row[j + 1] = changed.min(diagonal + 1).min(row[j] + 1);
+        }
+    }
+    row[other.len()]
+}
+
+#[cfg(test)]
+mod tests {
+    use super::*;
+
+    #[test]
+    fn distances() {
+        for (one, other, number) in [("", "", 0), ("a", "", 1), ("reader", "Reader", 0), ("reader", "raeder", 2), ("copy", "copies", 3)] {
+            assert_eq!(distance(one, other), number, "{one} {other}");
+            assert_eq!(distance(other, one), number, "{other} {one}");
+        }
+    }
+
+    #[test]
+    fn near_names_only() {
+        assert_eq!(did_you_mean("Scholar", ["visitor", "scholar"]), "did you mean scholar?");
+        assert_eq!(did_you_mean("scholars", ["visitor", "scholar"]), "did you mean scholar?");
+        assert_eq!(did_you_mean("guest", ["visitor", "scholar"]), "");
+        assert_eq!(did_you_mean("a1", ["b2", "c3"]), "");
+    }
+}
