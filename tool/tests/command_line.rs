@@ -144,11 +144,14 @@ fn statuses_of_the_writing_commands() {
 #[test]
 fn statuses_of_after_and_way() {
     let f = files("statuses-3");
-    for file in [&f.good, &f.policy] {
+    for file in [&f.good, &f.policy, &f.book] {
         status(&["after", file], 0);
-        status(&["after", file, "3", "3", "0"], 0);
-        status(&["after", file, "3", "3", "3"], 2);
-        status(&["after", file, "5"], 2);
+        status(&["after", file, "code 3 twice", "code", "0"], 0);
+        status(&["after", file, "code 3, code 3, code 3"], 2);
+        status(&["after", file, "code 5"], 2);
+        status(&["after", file, "3"], 2);
+        status(&["after", file, "state", "3"], 0);
+        status(&["after", file, "state", "4"], 2);
         status(&["way", file, "1", "reject"], 0);
         status(&["way", file, "1", "none"], 1);
         status(&["way", file, "2", "none"], 2);
@@ -356,18 +359,22 @@ fn names_must_be_as_many() {
 }
 
 #[test]
-fn texts_with_different_names_are_compared_with_a_warning() {
-    let f = files("warning");
+fn texts_with_different_names_are_compared_only_if_asked() {
+    let f = files("renamed");
     let renamed = f
         .folder
         .file("renamed.txt", GOOD.replace("render", "picture"));
     let ran = run(&["compare", &f.good, &renamed], &[]);
-    assert_eq!(ran.status, 0);
+    assert_eq!((ran.status, ran.text()), (2, ""));
     assert!(
         ran.errors.contains("render") && ran.errors.contains("picture"),
         "{}",
         ran.errors
     );
-    let ran = run(&["compare", &f.good, &f.good], &[]);
-    assert_eq!((ran.status, ran.errors.as_str()), (0, ""));
+    assert!(ran.errors.contains("--by-order"), "{}", ran.errors);
+    status(&["compare", "--by-order", &f.good, &renamed], 0);
+    let turned = GOOD.replace("drawing, render", "render, drawing");
+    let turned = f.folder.file("turned.txt", turned);
+    status(&["compare", &f.good, &turned], 0);
+    status(&["compare", "--by-order", &f.good, &turned], 1);
 }

@@ -53,13 +53,13 @@ fn whom_a_rule_is_for() {
             "rule copy, reader accept",
             6,
             "copy",
-            "expected a value of the field person (reader, trainee, staff, or any), found `copy`",
+            "expected a value of the field person (reader, trainee, staff, or any), found `copy`: copy is a value of the field action; a rule has a part for each field, in their order: person, action",
         ),
         (
             "rule reader copy accept",
             13,
             "copy",
-            "expected `or`, or `,` and a value of the field action (open, copy, lend, or any), found `copy`",
+            "expected `,` before it, found `copy`",
         ),
         (
             "rule reader, copy, midnight accept",

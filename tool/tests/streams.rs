@@ -124,17 +124,25 @@ fn a_file_is_replaced_in_its_place() {
         .is_symlink());
     let mode = fs::metadata(&out).expect("the file").permissions().mode();
     assert_eq!(mode & 0o777, 0o640);
-    let ran = run_into(
-        &["build", "rules.txt", "-o", "rules.txt"],
-        &folder,
-        Stdio::piped(),
-    );
+}
+
+/// But `print` may put a text into its standard layout.
+#[test]
+fn an_input_is_not_written_over() {
+    let folder = folder("over");
+    symlink("rules.txt", folder.name("link")).expect("a link");
+    for out in ["rules.txt", "./rules.txt", "link"] {
+        let ran = run_into(&["build", "rules.txt", "-o", out], &folder, Stdio::piped());
+        assert_eq!((ran.status, ran.text()), (2, ""), "{out}");
+        let rules = fs::read(folder.name("rules.txt")).expect("the rules");
+        assert_eq!(rules, RULES.as_bytes(), "{out}");
+    }
+    let standard = run(&["print", "-"], RULES.as_bytes()).output;
+    let words = ["print", "rules.txt", "-o", "rules.txt"];
+    assert_eq!(run_into(&words, &folder, Stdio::piped()).status, 0);
     assert_eq!(
-        (
-            ran.status,
-            fs::read(folder.name("rules.txt")).expect("the file")
-        ),
-        (0, book)
+        fs::read(folder.name("rules.txt")).expect("the rules"),
+        standard
     );
 }
 

@@ -3,16 +3,10 @@
 
 mod common;
 
-use std::collections::BTreeSet;
-
 use common::json::{read, Value};
 use common::run::{run, Folder, Ran};
-use common::subjects::Subject;
+use common::subjects::{walk, with_books, Subject};
 use common::{Met, Random};
-use policybook::frame::Frame;
-use policybook::names::Names;
-use policybook::notation::{parse, print};
-use policybook::policy::Policy;
 use reference::book::Book;
 use reference::generate::{question, Question};
 use reference::way::{outcome_in, way};
@@ -25,29 +19,7 @@ const OUTCOMES: [&str; 4] = ["none", "accept", "reject", "both"];
 
 /// Files that have a book.
 fn subjects(folder: &Folder) -> impl Iterator<Item = (u64, Subject, Book)> + '_ {
-    (3_000..3_000 + FILES).filter_map(|number| {
-        let subject = Subject::new(number, folder);
-        let book = subject.book().ok()?;
-        Some((number, subject, book))
-    })
-}
-
-/// A random history that is possible in the book, with the state after each step.
-fn walk(book: &Book, random: &mut Random) -> Vec<(u8, usize)> {
-    let mut state = 1;
-    let mut steps = Vec::new();
-    for _ in 0..random.below(40) {
-        let possible: Vec<usize> = (0..book.frame.width())
-            .filter(|&code| book.entry(state, code) != 0)
-            .collect();
-        if possible.is_empty() {
-            break;
-        }
-        let code = *random.pick(&possible);
-        state = book.entry(state, code);
-        steps.push((code as u8, state));
-    }
-    steps
+    with_books(3_000..3_000 + FILES, folder)
 }
 
 /// Checks the answer for machines after these steps.
@@ -85,6 +57,14 @@ fn check_after(found: &Value, subject: &Subject, book: &Book, steps: &[(u8, usiz
             "{input}"
         );
         assert_eq!(found.get("outcome").text(), outcome, "{input}");
+        let codes = [
+            book.frame.accept_code(request),
+            book.frame.reject_code(request),
+        ];
+        for (name, code) in ["accepted_to", "rejected_to"].iter().zip(codes) {
+            let to = Some(book.entry(state, code)).filter(|&to| to != 0);
+            assert_eq!(found.get(name).maybe(Value::number), to, "{input}");
+        }
     }
     let states: Vec<usize> = (0..book.frame.events)
         .map(|event| book.entry(state, event))
@@ -95,7 +75,10 @@ fn check_after(found: &Value, subject: &Subject, book: &Book, steps: &[(u8, usiz
 /// Asks what is possible after these steps, said by their codes.
 fn ask_after(subject: &Subject, steps: &[(u8, usize)], further: Option<usize>) -> Ran {
     let codes = steps.iter().map(|&(code, _)| usize::from(code));
-    let words: Vec<String> = codes.chain(further).map(|code| code.to_string()).collect();
+    let words: Vec<String> = codes
+        .chain(further)
+        .map(|code| format!("code {code}"))
+        .collect();
     let words: Vec<&str> = words.iter().map(String::as_str).collect();
     run(
         &[&["after", "--json", &subject.file][..], &words].concat(),
@@ -146,10 +129,19 @@ fn steps_are_said_in_several_ways() {
         read(ran.text()).get("steps").each("code")
     };
     for words in [
-        &["1", "1", "0", "7"][..],
-        &["1, 1, 0, 7"],
-        &["1 twice", "noon", "7"],
-        &["late reader", "copy", "accepted", "twice", "noon", "7"],
+        &["code", "1", "code", "1", "code", "0", "code", "7"][..],
+        &["code 1, code 1, code 0, code 7"],
+        &["code 1 twice", "noon", "code 7"],
+        &[
+            "late reader",
+            "copy",
+            "accepted",
+            "twice",
+            "noon",
+            "7",
+            "lend",
+            "accepted",
+        ],
         &[
             "late reader",
             "copy",
@@ -157,108 +149,24 @@ fn steps_are_said_in_several_ways() {
             "late reader",
             "copy",
             "accept",
-            "0",
+            "noon",
+            "code",
             "7",
         ],
         &["\"late reader\" copy accepted 2 times, noon, \"7\" lend accepted"],
         &[
-            "\"late reader\"",
+            "\"late reader\",",
             "copy",
             "accepted",
             "2",
             "times",
-            "0,",
+            "noon,",
             "\"7\"",
             "lend",
             "accepted",
         ],
     ] {
         assert_eq!(answer(words), [1, 1, 0, 7], "{words:?}");
-    }
-}
-
-/// The requests that a line of words stands for, as in a rule.
-fn requests(line: &str, subject: &Subject, book: &Book) -> BTreeSet<usize> {
-    let all = 0..book.frame.requests();
-    if line == "any request" {
-        return all.collect();
-    }
-    let declared = Policy {
-        version: 1,
-        frame: Frame {
-            events: book.frame.events,
-            counts: book.frame.counts.clone(),
-        },
-        starts: Vec::new(),
-        rules: Vec::new(),
-        events: vec![Vec::new(); book.frame.events],
-    };
-    let names = Names {
-        variables: Vec::new(),
-        ..subject.names.clone()
-    };
-    let text = format!("{}rule {line} accept\n", print(&declared, &names, &[]));
-    let masks = parse(&text).expect(line).policy.rules[0].masks.clone();
-    let is_meant = |request: &usize| {
-        let values = book.frame.values_of(*request);
-        masks
-            .iter()
-            .zip(values)
-            .all(|(mask, value)| mask >> value & 1 == 1)
-    };
-    all.filter(is_meant).collect()
-}
-
-/// Checks the words on a state: each request in one line below its outcome, and
-/// where events lead.
-fn check_words(words: &str, subject: &Subject, book: &Book, state: usize) {
-    let titles = [
-        "  unanswered:",
-        "  accepted:",
-        "  rejected:",
-        "  accepted or rejected (conflict):",
-    ];
-    let mut said = vec![BTreeSet::new(); 4];
-    let mut events = Vec::new();
-    let mut title = None;
-    for line in words.lines().skip(1) {
-        match (line.strip_prefix("    "), title) {
-            (None, _) => title = titles.iter().position(|title| *title == line),
-            (Some(line), None) => events.push(line.to_string()),
-            (Some(line), Some(outcome)) => {
-                let requests = requests(line, subject, book);
-                assert!(
-                    said[outcome].is_disjoint(&requests),
-                    "{}:\n{words}",
-                    subject.input
-                );
-                said[outcome].extend(requests);
-            }
-        }
-    }
-    for (outcome, said) in said.iter().enumerate() {
-        let has_outcome = |request: &usize| outcome_in(book, state, *request) == outcome;
-        let expected: BTreeSet<usize> = (0..book.frame.requests()).filter(has_outcome).collect();
-        assert_eq!(*said, expected, "{}:\n{words}", subject.input);
-    }
-    let event = |event: usize| match book.entry(state, event) {
-        to if to == state => format!("{} stays here", subject.step(book, event)),
-        to => format!("{} to state {to}", subject.step(book, event)),
-    };
-    let expected: Vec<String> = (0..book.frame.events).map(event).collect();
-    assert_eq!(events, expected, "{}:\n{words}", subject.input);
-}
-
-#[test]
-fn words_say_every_request_once() {
-    let folder = Folder::new("words");
-    for (number, subject, book) in subjects(&folder) {
-        let steps = walk(&book, &mut Random::new(number, "walk"));
-        let codes: Vec<String> = steps.iter().map(|(code, _)| code.to_string()).collect();
-        let ran = run(&["after", &subject.file, &codes.join(", ")], &[]);
-        assert_eq!(ran.status, 0, "{}: {}", subject.input, ran.errors);
-        let state = steps.last().map_or(1, |&(_, state)| state);
-        check_words(ran.text(), &subject, &book, state);
     }
 }
 

@@ -29,7 +29,7 @@ const LEAST_BOX: f64 = 46.0;
 const LABEL_INSIDE: f64 = 4.0;
 /// Between two rows.
 const ROW_GAP: f64 = 2.0;
-/// Lines of a row after its first are set in by this.
+/// Lines of a row after its first are set in by this, and the tags of its parts.
 const INDENT: f64 = 10.0;
 /// Between the heading and the table, and on each side of a rule.
 const PART_GAP: f64 = 6.0;
@@ -85,6 +85,9 @@ impl Block {
 
     /// A line of text whose upper left corner is at a place.
     fn line(&mut self, x: f64, y: f64, text: &str) {
+        if text.is_empty() {
+            return;
+        }
         let y = y + LINE / 2.0 + LETTERS * 0.36;
         self.lines.push(Line {
             x,
@@ -103,8 +106,10 @@ impl Block {
                 let indent = if number == 0 { 0.0 } else { INDENT };
                 self.line(x + indent, y + down + number as f64 * LINE, line);
             }
-            let tag = self.tag(x + words + COLUMN_GAP, y + down, &row.tag, row.kind);
-            self.width = self.width.max(x + words + COLUMN_GAP + tag);
+            let indent = if row.part { INDENT } else { 0.0 };
+            let left = x + words + COLUMN_GAP + indent;
+            let tag = self.tag(left, y + down, &row.tag, row.kind);
+            self.width = self.width.max(left + tag);
             down += broken(row).len() as f64 * LINE + ROW_GAP;
         }
         (down - ROW_GAP).max(0.0)

@@ -3,12 +3,15 @@
 
 use super::layers::Layers;
 use super::place::Places;
+use std::ops::Range;
 
 /// Between two columns.
 const BETWEEN: f64 = 60.0;
 /// Above the first states of a column and below the last of another, for the link between.
 pub const TURN: f64 = 16.0;
 const ABOVE: f64 = 44.0;
+/// How often the height of columns is halved between too low and high enough.
+const HALVINGS: usize = 24;
 
 /// Where the columns are.
 pub struct Columns {
@@ -70,23 +73,56 @@ impl Columns {
     }
 }
 
-/// The column of each rank: the next begins where it may once a column has its share.
+/// The column of each rank: the lowest columns that are not more than so many.
 fn columns_of_ranks(layers: &Layers, places: &Places, count: usize) -> Vec<usize> {
-    let share = places.across / count as f64;
+    let pieces = pieces(layers);
+    let (mut low, mut high) = (0.0, places.across);
+    for _ in 0..HALVINGS {
+        let middle = (low + high) / 2.0;
+        let columns = filled(places, &pieces, middle);
+        if columns.last().is_some_and(|&last| last < count) {
+            high = middle;
+        } else {
+            low = middle;
+        }
+    }
+    let columns = filled(places, &pieces, high);
+    let pieces = pieces.iter().zip(columns);
+    pieces
+        .flat_map(|(piece, column)| vec![column; piece.len()])
+        .collect()
+}
+
+/// The ranks in pieces that must not be parted.
+fn pieces(layers: &Layers) -> Vec<Range<usize>> {
     let mut links_into = vec![0; layers.ranks.len()];
     for link in &layers.links {
         links_into[layers.cells[link.lower].rank] += 1;
     }
+    let may_begin = |&rank: &usize| rank % 2 == 1 && rank > 1 && links_into[rank] == 1;
+    let ranks = 0..layers.ranks.len();
+    let begins: Vec<usize> = std::iter::once(0)
+        .chain(ranks.clone().filter(may_begin))
+        .collect();
+    let ends = begins.iter().skip(1).copied().chain([ranks.end]);
+    begins
+        .iter()
+        .zip(ends)
+        .map(|(&begin, end)| begin..end)
+        .collect()
+}
+
+/// The column of each piece if columns are filled up to a height; a higher piece has its own.
+fn filled(places: &Places, pieces: &[Range<usize>], height: f64) -> Vec<usize> {
     let mut column = 0;
     let mut begin = 0.0;
-    let mut of_rank = Vec::new();
-    for (rank, &(from, to)) in places.ranks.iter().enumerate() {
-        let may_begin = rank % 2 == 1 && rank > 1 && links_into[rank] == 1;
-        if may_begin && column + 1 < count && to - begin > share {
+    let column_of = |piece: &Range<usize>| {
+        let (from, to) = (places.ranks[piece.start].0, places.ranks[piece.end - 1].1);
+        if piece.start > 0 && to - begin > height {
             column += 1;
             begin = from;
         }
-        of_rank.push(column);
-    }
-    of_rank
+        column
+    };
+    pieces.iter().map(column_of).collect()
 }

@@ -37,12 +37,21 @@ fn table(node: &Node, is_start: bool) -> String {
         line += &format!(": {}", rows(&node.rows));
     }
     if !node.steps.is_empty() {
-        line += &format!(". Steps that stay: {}", rows(&node.steps));
+        line += &format!(". Steps within it: {}", rows(&node.steps));
     }
     line + "."
 }
 
+/// Rows one after the other, what belongs to a row in brackets.
 fn rows(rows: &[Row]) -> String {
-    let said = rows.iter().map(|row| format!("{} {}", row.words, row.tag));
+    let groups = rows.chunk_by(|_, next| next.part);
+    let said = groups.map(|group| {
+        let parts: Vec<&str> = group[1..].iter().map(|row| row.tag.as_str()).collect();
+        let brackets = match parts[..] {
+            [] => String::new(),
+            _ => format!(" ({})", parts.join("; ")),
+        };
+        format!("{} {}{brackets}", group[0].words, group[0].tag)
+    });
     said.collect::<Vec<String>>().join("; ")
 }

@@ -1,5 +1,5 @@
-//! Which steps of a whole book become arrows, and which are listed in the tables of
-//! their states so that the picture stays readable.
+//! Which steps of a whole book become arrows; the others are listed in the tables of their
+//! states so that the picture stays readable.
 
 use crate::book::Book;
 use std::collections::{BTreeMap, BTreeSet, VecDeque};
@@ -39,27 +39,68 @@ impl Thinning {
 pub struct Earliest {
     pub depths: Vec<Option<usize>>,
     pairs: BTreeSet<(usize, usize)>,
+    /// Where events are left out: states that are reached only through them, and by no
+    /// arrow from another.
+    pub by_events: BTreeSet<usize>,
 }
 
 impl Earliest {
-    /// Searches breadth first.
-    pub fn of(book: &Book) -> Earliest {
-        let mut earliest = Earliest {
+    /// The histories of a book. Where codes below the first one are left out, the pairs
+    /// are those of histories without them.
+    pub fn of(book: &Book, first: usize) -> Earliest {
+        let mut earliest = Earliest::none(book);
+        earliest.search(book, 0, 1);
+        if first > 0 {
+            let mut drawn = Earliest::none(book);
+            drawn.search(book, first, 1);
+            for state in earliest.entrances(book, first) {
+                if drawn.depths[state].is_none() {
+                    drawn.search(book, first, state);
+                    earliest.by_events.insert(state);
+                }
+            }
+            earliest.pairs = drawn.pairs;
+        }
+        earliest
+    }
+
+    fn none(book: &Book) -> Earliest {
+        Earliest {
             depths: vec![None; book.states() + 1],
             pairs: BTreeSet::new(),
-        };
-        earliest.depths[1] = Some(0);
-        let mut waiting = VecDeque::from([(1, 0)]);
+            by_events: BTreeSet::new(),
+        }
+    }
+
+    /// Searches breadth first from a state by codes from a first one on, as far as nothing
+    /// was found before.
+    fn search(&mut self, book: &Book, first: usize, from: usize) {
+        self.depths[from] = Some(0);
+        let mut waiting = VecDeque::from([(from, 0)]);
         while let Some((state, depth)) = waiting.pop_front() {
-            for next in (0..book.frame().width()).filter_map(|code| book.next(state, code)) {
-                if earliest.depths[next].is_none() {
-                    earliest.depths[next] = Some(depth + 1);
-                    earliest.pairs.insert((state, next));
+            for next in (first..book.frame().width()).filter_map(|code| book.next(state, code)) {
+                if self.depths[next].is_none() {
+                    self.depths[next] = Some(depth + 1);
+                    self.pairs.insert((state, next));
                     waiting.push_back((next, depth + 1));
                 }
             }
         }
-        earliest
+    }
+
+    /// The states that are reached, in the order in which they are looked at for whether
+    /// they have an arrow in: first those that no step from a first code on leads to from
+    /// another, then the others, the nearest first.
+    fn entrances(&self, book: &Book, first: usize) -> Vec<usize> {
+        let is_reached = |state: &usize| self.depths[*state].is_some();
+        let mut entered = BTreeSet::new();
+        for state in (1..=book.states()).filter(is_reached) {
+            let after = (first..book.frame().width()).filter_map(|code| book.next(state, code));
+            entered.extend(after.filter(|&next| next != state));
+        }
+        let mut states: Vec<usize> = (1..=book.states()).filter(is_reached).collect();
+        states.sort_by_key(|state| (entered.contains(state), self.depths[*state]));
+        states
     }
 
     /// By how many layers a step leads back; a step to the next layer by -1.
@@ -68,11 +109,10 @@ impl Earliest {
     }
 }
 
-/// The steps to other states from a code on, divided into those that are drawn as arrows
-/// and those that are listed in tables.
-pub fn divide(book: &Book, earliest: &Earliest, first: usize, thinning: Thinning) -> (Ways, Ways) {
+/// The steps to other states from a code on that are drawn as arrows.
+pub fn arrows(book: &Book, earliest: &Earliest, first: usize, thinning: Thinning) -> Ways {
     let common = common_events(book, earliest);
-    let (mut arrows, mut listed) = (Ways::new(), Ways::new());
+    let mut arrows = Ways::new();
     for state in 1..=book.states() {
         for code in first..book.frame().width() {
             let Some(next) = book.next(state, code).filter(|&next| next != state) else {
@@ -83,11 +123,12 @@ pub fn divide(book: &Book, earliest: &Earliest, first: usize, thinning: Thinning
                 Some(_) if earliest.pairs.contains(&(state, next)) => true,
                 Some(back) => !common.contains(&(code, state)) && kept(thinning, back),
             };
-            let ways = if drawn { &mut arrows } else { &mut listed };
-            ways.entry((state, next)).or_default().push(code);
+            if drawn {
+                arrows.entry((state, next)).or_default().push(code);
+            }
         }
     }
-    (arrows, listed)
+    arrows
 }
 
 /// Whether an arrow that leads back by so many layers is drawn.

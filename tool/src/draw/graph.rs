@@ -1,11 +1,15 @@
-//! What is drawn of a whole book: a node for each state, with the table of what does not
-//! leave it, and an arrow for all steps from one state to another.
+//! What is drawn of a whole book: a node for each state, with the table of what has no
+//! arrow, and an arrow for all steps from one state to another.
 
-use super::divide::{divide, Earliest, Thinning, Ways};
-use super::rows::{common_kind, finding_rows, step_rows, Kind, Place, Row};
+use super::divide::{arrows, Earliest, Thinning, Ways};
+use super::rows::{arrow_rows, common_kind, Kind, Row};
+use super::table::{table, Listed, Place};
 use crate::book::{Book, Outcome};
 use crate::names::Names;
 use std::collections::BTreeSet;
+
+/// The mark of a state without an arrow in, since events are left out.
+pub const BY_EVENTS: &str = "by events";
 
 /// A box of the picture.
 #[derive(Clone, Debug, PartialEq, Eq)]
@@ -64,101 +68,95 @@ pub struct Graph {
     pub is_path: bool,
 }
 
-/// A book with its names, and whether its events are drawn.
+/// A book with its names, and the first code that is drawn: that of the first request if
+/// events are left out.
 pub struct Source<'a> {
     pub book: &'a Book,
     pub names: &'a Names,
-    pub events: bool,
-    pub earliest: Earliest,
+    first: usize,
+    earliest: Earliest,
+}
+
+/// What a box says of a state: words beside its number, and where the steps lead that stand
+/// in it.
+#[derive(Clone, Debug, PartialEq, Eq)]
+pub struct Said {
+    pub marks: Vec<&'static str>,
+    pub listed: Listed,
 }
 
 impl Source<'_> {
     pub fn new<'a>(book: &'a Book, names: &'a Names, events: bool) -> Source<'a> {
+        let first = if events { 0 } else { book.frame().events };
         Source {
             book,
             names,
-            events,
-            earliest: Earliest::of(book),
-        }
-    }
-
-    /// The steps to other states that are drawn as arrows, and those listed in tables.
-    pub fn divide(&self, thinning: Thinning) -> (Ways, Ways) {
-        divide(self.book, &self.earliest, self.first_code(), thinning)
-    }
-
-    fn first_code(&self) -> usize {
-        if self.events {
-            0
-        } else {
-            self.book.frame().events
+            first,
+            earliest: Earliest::of(book, first),
         }
     }
 
     /// The graph of the whole book.
     pub fn whole(&self, thinning: Thinning) -> Graph {
-        let (arrows, listed) = self.divide(thinning);
+        let drawn = arrows(self.book, &self.earliest, self.first, thinning);
         let (reached, apart): (Vec<usize>, Vec<usize>) =
             (1..=self.book.states()).partition(|&state| self.earliest.depths[state].is_some());
         let arrow = |(&(from, to), codes): (&(usize, usize), &Vec<usize>)| {
             let place = |state| reached.binary_search(&state).ok();
-            Some(Arrow::new(
-                place(from)?,
-                place(to)?,
-                step_rows(self.names, codes, Place::Arrow),
-            ))
+            let rows = arrow_rows(self.names, codes);
+            Some(Arrow::new(place(from)?, place(to)?, rows))
+        };
+        let node = |&state: &usize| {
+            let mut said = self.said(state, &drawn);
+            if self.earliest.by_events.contains(&state) {
+                said.marks.push(BY_EVENTS);
+            }
+            self.node(state, &said)
         };
         Graph {
-            nodes: reached
-                .iter()
-                .map(|&state| self.node(state, &listed))
-                .collect(),
-            apart: apart
-                .iter()
-                .map(|&state| self.node(state, &listed))
-                .collect(),
-            arrows: arrows.iter().filter_map(arrow).collect(),
+            nodes: reached.iter().map(node).collect(),
+            apart: apart.iter().map(node).collect(),
+            arrows: drawn.iter().filter_map(arrow).collect(),
             is_path: false,
         }
     }
 
-    /// The node of a state.
-    pub fn node(&self, state: usize, listed: &Ways) -> Node {
-        let depth = self.earliest.depths[state];
+    /// What a box says of a state if some steps are drawn otherwise.
+    pub fn said(&self, state: usize, drawn: &Ways) -> Said {
+        let place = |code: usize| {
+            let next = self.book.next(state, code)?;
+            let way = drawn.get(&(state, next));
+            let place = if next == state {
+                Place::Stays
+            } else {
+                Place::To(next)
+            };
+            (!way.is_some_and(|codes| codes.contains(&code))).then_some((code, place))
+        };
         let marks = [
             (blocked(self.book, state), "blocked"),
-            (depth.is_none(), "not reached"),
+            (self.earliest.depths[state].is_none(), "not reached"),
         ];
-        Node {
-            heading: state.to_string(),
-            marks: marks
-                .iter()
-                .filter(|(fits, _)| *fits)
-                .map(|&(_, mark)| mark)
+        let marks = marks.iter().filter(|(fits, _)| *fits);
+        Said {
+            marks: marks.map(|&(_, mark)| mark).collect(),
+            listed: (self.first..self.book.frame().width())
+                .filter_map(place)
                 .collect(),
-            rows: self.table(state, listed),
-            steps: Vec::new(),
-            layer: depth.unwrap_or(0),
-            emphasised: false,
-            ellipsis: false,
         }
     }
 
-    /// The rows of a state's table: what stays, what is open, and where steps lead that
-    /// have no arrow.
-    fn table(&self, state: usize, listed: &Ways) -> Vec<Row> {
-        let stay: Vec<usize> = (self.first_code()..self.book.frame().width())
-            .filter(|&code| self.book.next(state, code) == Some(state))
-            .collect();
-        let stay = step_rows(self.names, &stay, Place::Stays);
-        let (events, mut rows): (Vec<Row>, Vec<Row>) =
-            stay.into_iter().partition(|row| row.kind == Kind::Event);
-        rows.extend(finding_rows(self.book, self.names, state));
-        rows.extend(events);
-        for (&(_, to), codes) in listed.range((state, 0)..(state + 1, 0)) {
-            rows.extend(step_rows(self.names, codes, Place::To(to)));
+    /// The node of a state.
+    pub fn node(&self, state: usize, said: &Said) -> Node {
+        Node {
+            heading: state.to_string(),
+            marks: said.marks.clone(),
+            rows: table(self.book, self.names, state, &said.listed),
+            steps: Vec::new(),
+            layer: self.earliest.depths[state].unwrap_or(0),
+            emphasised: false,
+            ellipsis: false,
         }
-        rows
     }
 }
 

@@ -1,4 +1,4 @@
-//! Pictures of books as SVG: a box for each state with a table of what stays there, and
+//! Pictures of books as SVG: a box for each state with a table of what has no arrow, and
 //! one arrow for all steps that lead from one state to another.
 
 mod block;
@@ -18,9 +18,11 @@ mod route;
 mod rows;
 mod sheet;
 mod svg;
+mod table;
 #[cfg(test)]
 mod tests;
 mod text_width;
+mod walk;
 
 use crate::book::Book;
 use crate::names::Names;
@@ -35,7 +37,7 @@ pub struct Options<'a> {
     pub title: &'a str,
     /// Whether events are drawn; those of a path always are.
     pub events: bool,
-    /// A history: only the states on it and its steps are drawn.
+    /// A history: only the states on it are drawn, and only its steps as arrows.
     pub path: Option<&'a [u8]>,
 }
 

@@ -1,7 +1,6 @@
-//! What a state's table and an arrow's label say: rows of words with a tag.
+//! Rows of words with a tag, and those of an arrow's label.
 
 use super::cover::{cover, words};
-use crate::book::{Book, Outcome};
 use crate::frame::{Frame, Step};
 use crate::names::Names;
 
@@ -24,77 +23,58 @@ pub struct Row {
     pub words: String,
     pub tag: String,
     pub kind: Kind,
+    /// Whether it says more of what the row before is about, and so has no words.
+    pub part: bool,
 }
 
-/// Where the steps lead that rows are about.
-#[derive(Clone, Copy, Debug, PartialEq, Eq)]
-pub enum Place {
-    /// Nowhere else: the state is not left.
-    Stays,
-    /// To a state that no arrow is drawn to.
-    To(usize),
-    /// Along the arrow that the rows stand at.
-    Arrow,
+impl Row {
+    pub fn new(words: String, tag: &str, kind: Kind) -> Row {
+        Row {
+            words,
+            tag: tag.to_string(),
+            kind,
+            part: false,
+        }
+    }
+
+    /// A row that says more of what the row before is about.
+    pub fn part(tag: &str, kind: Kind) -> Row {
+        Row {
+            part: true,
+            ..Row::new(String::new(), tag, kind)
+        }
+    }
 }
 
-/// The rows for steps of one state that all lead to one place.
-pub fn step_rows(names: &Names, codes: &[usize], place: Place) -> Vec<Row> {
+/// The rows for steps that all lead along one arrow.
+pub fn arrow_rows(names: &Names, codes: &[usize]) -> Vec<Row> {
     let frame = names.frame();
     let mut rows = Vec::new();
-    for kind in [Kind::Accepted, Kind::Rejected, Kind::Both] {
+    for (kind, tag) in [
+        (Kind::Accepted, "accepted"),
+        (Kind::Rejected, "rejected"),
+        (Kind::Both, "accepted or rejected"),
+    ] {
         let requests = requests_of_kind(&frame, codes, kind);
-        rows.extend(request_rows(
-            names,
-            &frame,
-            &requests,
-            &decided_tag(kind, place),
-            kind,
-        ));
+        let row = |words| Row::new(words, tag, kind);
+        rows.extend(products(names, &frame, &requests).map(row));
     }
-    let events: Vec<String> = codes
-        .iter()
-        .filter(|&&code| code < frame.events)
-        .map(|&event| names.event(event))
-        .collect();
+    let events = codes.iter().filter(|&&code| code < frame.events);
+    let events: Vec<String> = events.map(|&event| names.event(event)).collect();
     if !events.is_empty() {
-        let tag = match place {
-            Place::Stays if events.len() == 1 => "stays".to_string(),
-            Place::Stays => "stay".to_string(),
-            Place::To(state) => format!("→ {state}"),
-            Place::Arrow => "event".to_string(),
-        };
-        rows.push(Row {
-            words: events.join(" or "),
-            tag,
-            kind: Kind::Event,
-        });
+        rows.push(Row::new(events.join(" or "), "event", Kind::Event));
     }
     rows
 }
 
-/// The rows for what a state leaves open: requests that may be both accepted and
-/// rejected, unless a row of what stays says so, and requests without an answer.
-pub fn finding_rows(book: &Book, names: &Names, state: usize) -> Vec<Row> {
-    let frame = book.frame();
-    let stays = |request, accepted| {
-        book.next(state, frame.code(Step::Decided { request, accepted })) == Some(state)
-    };
-    let with = |outcome| {
-        (0..frame.requests()).filter(move |&request| book.outcome(state, request) == outcome)
-    };
-    let conflicts: Vec<usize> = with(Outcome::Both)
-        .filter(|&request| !(stays(request, true) && stays(request, false)))
-        .collect();
-    let open: Vec<usize> = with(Outcome::Unanswered).collect();
-    let mut rows = request_rows(names, frame, &conflicts, "conflict", Kind::Both);
-    rows.extend(request_rows(
-        names,
-        frame,
-        &open,
-        "unanswered",
-        Kind::Unanswered,
-    ));
-    rows
+/// The words of the products that cover some requests.
+pub fn products<'a>(
+    names: &'a Names,
+    frame: &Frame,
+    requests: &[usize],
+) -> impl Iterator<Item = String> + 'a {
+    let products = cover(frame, requests).into_iter();
+    products.map(|product| words(names, &product))
 }
 
 /// The kind of an arrow: that of its rows if it is the same for all.
@@ -103,22 +83,6 @@ pub fn common_kind(rows: &[Row]) -> Kind {
         Some((first, rest)) if rest.iter().all(|row| row.kind == first.kind) => first.kind,
         _ => Kind::Plain,
     }
-}
-
-fn request_rows(
-    names: &Names,
-    frame: &Frame,
-    requests: &[usize],
-    tag: &str,
-    kind: Kind,
-) -> Vec<Row> {
-    let products = cover(frame, requests);
-    let row = |product: &Vec<u16>| Row {
-        words: words(names, product),
-        tag: tag.to_string(),
-        kind,
-    };
-    products.iter().map(row).collect()
 }
 
 /// The requests that the codes accept only, reject only, or both.
@@ -130,17 +94,4 @@ fn requests_of_kind(frame: &Frame, codes: &[usize], kind: Kind) -> Vec<usize> {
         _ => has(*request, true) && has(*request, false),
     };
     (0..frame.requests()).filter(fits).collect()
-}
-
-fn decided_tag(kind: Kind, place: Place) -> String {
-    let word = match kind {
-        Kind::Accepted => "accepted",
-        Kind::Rejected => "rejected",
-        _ if place == Place::Stays => "both: conflict",
-        _ => "accepted or rejected",
-    };
-    match place {
-        Place::To(state) => format!("{word} → {state}"),
-        _ => word.to_string(),
-    }
 }

@@ -1,97 +1,21 @@
 //! The layouts of all samples and of some hundred pseudo-random books: nothing overlaps,
 //! no arrow runs through a box or a label, and everything lies within the picture.
 
+mod books;
+mod paths;
+mod steps;
+
 use super::graph::{Graph, Source};
 use super::layers::Direction;
 use super::route::Point;
 use super::sheet::{sheet, Arranged, Placed, Sheet};
 use super::{graph_of, legend, picture, Options};
 use crate::book::Book;
-use crate::frame::Frame;
 use crate::names::Names;
+use books::{sample_books, Random};
 
 /// Less than this is taken for touching.
 const TOUCH: f64 = 0.5;
-
-/// The numbers of values of the fields in pseudo-random books.
-const COUNTS: [&[usize]; 6] = [&[1], &[3], &[2, 2], &[2, 1, 3], &[2, 2, 1, 2], &[8, 8]];
-
-fn sample_books() -> Vec<Book> {
-    let lines = include_str!("sample_books.txt")
-        .lines()
-        .filter(|line| !line.starts_with('#'));
-    let hex = lines
-        .filter_map(|line| line.split_once(' '))
-        .map(|(_, hex)| hex);
-    let byte = |hex: &str, at: usize| u8::from_str_radix(&hex[at..at + 2], 16).unwrap();
-    hex.map(|hex| Book::new((0..hex.len()).step_by(2).map(|at| byte(hex, at)).collect()))
-        .collect()
-}
-
-/// Pseudo-random numbers (a linear congruence, its upper bits).
-struct Random(u64);
-
-impl Random {
-    fn below(&mut self, bound: usize) -> usize {
-        self.0 = self
-            .0
-            .wrapping_mul(6_364_136_223_846_793_005)
-            .wrapping_add(1_442_695_040_888_963_407);
-        (self.0 >> 33) as usize % bound
-    }
-
-    /// A book of at most so many states, whose requests lead elsewhere in so many of a
-    /// hundred cases.
-    fn book(&mut self, most_states: usize, leaving: usize) -> Book {
-        // The last frame makes large tables: only in small books.
-        let choice = self.below(if most_states > 5 { 5 } else { 6 });
-        let frame = Frame {
-            events: self.below(4),
-            counts: COUNTS[choice].to_vec(),
-        };
-        let states = 1 + self.below(most_states);
-        let mut bytes = vec![
-            0x42,
-            0x4f,
-            0x4b,
-            0,
-            1,
-            frame.events as u8,
-            frame.counts.len() as u8,
-        ];
-        bytes.extend((0..4).map(|field| *frame.counts.get(field).unwrap_or(&0) as u8));
-        bytes.push(states as u8);
-        for state in 1..=states {
-            for code in 0..frame.width() {
-                let entry = match self.below(100) {
-                    share if share < leaving => 1 + self.below(states),
-                    share if share < 60 || code < frame.events => 1 + state % states,
-                    share if share < 80 => state,
-                    _ => 0,
-                };
-                bytes.push(entry as u8);
-            }
-        }
-        Book::new(bytes)
-    }
-
-    /// Steps that are possible one after the other.
-    fn history(&mut self, book: &Book, most: usize) -> Vec<u8> {
-        let mut state = 1;
-        let mut codes = Vec::new();
-        for _ in 0..self.below(most + 1) {
-            let possible: Vec<(usize, usize)> = (0..book.frame().width())
-                .filter_map(|code| Some((code, book.next(state, code)?)))
-                .collect();
-            let Some(&(code, next)) = possible.get(self.below(possible.len().max(1))) else {
-                break;
-            };
-            codes.push(code as u8);
-            state = next;
-        }
-        codes
-    }
-}
 
 fn overlap(one: &Placed, other: &Placed) -> bool {
     let apart = |low: f64, length: f64, other_low: f64, other_length: f64| {
@@ -225,31 +149,6 @@ fn every_arrow_is_kept_without_thinning() {
 }
 
 #[test]
-fn every_step_to_another_state_is_an_arrow_or_in_a_table() {
-    let mut random = Random(5);
-    for _ in 0..60 {
-        let book = random.book(12, 20);
-        let names = Names::made_up(book.frame(), 0);
-        let mut steps = Vec::new();
-        for state in 1..=book.states() {
-            let next = |code| Some((state, book.next(state, code)?, code));
-            let steps_here = (0..book.frame().width()).filter_map(next);
-            steps.extend(steps_here.filter(|(state, next, _)| state != next));
-        }
-        steps.sort_unstable();
-        for thinning in super::Thinning::ALL {
-            let (arrows, listed) = Source::new(&book, &names, true).divide(thinning);
-            let pairs = arrows.into_iter().chain(listed);
-            let mut said: Vec<(usize, usize, usize)> = pairs
-                .flat_map(|((from, to), codes)| codes.into_iter().map(move |code| (from, to, code)))
-                .collect();
-            said.sort_unstable();
-            assert_eq!(said, steps);
-        }
-    }
-}
-
-#[test]
 fn histories() {
     let mut random = Random(4);
     for number in 0..100 {
@@ -258,6 +157,15 @@ fn histories() {
             &book,
             Some(&random.history(&book, [12, 253][number / 2 % 2])),
         );
+    }
+}
+
+#[test]
+fn folded_histories() {
+    let mut random = Random(8);
+    for _ in 0..60 {
+        let book = random.counting();
+        check_book(&book, Some(&random.runs(&book, 60)));
     }
 }
 

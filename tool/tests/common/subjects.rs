@@ -138,3 +138,33 @@ fn frame(book: &Book) -> policybook::frame::Frame {
         counts: book.frame.counts.clone(),
     }
 }
+
+/// The files with these numbers that have a book.
+pub fn with_books(
+    numbers: std::ops::Range<u64>,
+    folder: &Folder,
+) -> impl Iterator<Item = (u64, Subject, Book)> + '_ {
+    numbers.filter_map(|number| {
+        let subject = Subject::new(number, folder);
+        let book = subject.book().ok()?;
+        Some((number, subject, book))
+    })
+}
+
+/// A random history that is possible in the book, with the state after each step.
+pub fn walk(book: &Book, random: &mut Random) -> Vec<(u8, usize)> {
+    let mut state = 1;
+    let mut steps = Vec::new();
+    for _ in 0..random.below(40) {
+        let possible: Vec<usize> = (0..book.frame.width())
+            .filter(|&code| book.entry(state, code) != 0)
+            .collect();
+        if possible.is_empty() {
+            break;
+        }
+        let code = *random.pick(&possible);
+        state = book.entry(state, code);
+        steps.push((code as u8, state));
+    }
+    steps
+}
