@@ -116,7 +116,9 @@ fn option(
 /// A wrong use, with where to look.
 pub fn wrong(message: &str, command: Option<Command>) -> Failure {
     let (usage, help) = match command {
-        Some(command) => (format!("usage: policybook {}\n", command.usage()), format!("policybook {} --help", command.word())),
+        Some(command) => {
+            (format!("usage: policybook {}\n", command.usage()), format!("policybook {} --help", command.word()))
+        }
         None => (String::new(), "policybook --help".to_string()),
     };
     Failure::of_use(format!("policybook: {message}\n{usage}see `{help}`"))

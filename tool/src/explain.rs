@@ -98,7 +98,10 @@ fn images(policy: &Policy, bounds: &[u8], valuation: &Valuation, step: Step) -> 
         Step::Event(event) => vec![changed(bounds, valuation, &policy.events[event])],
         Step::Decided { request, accepted } => {
             let rules = applying(policy, valuation, request).into_iter().map(|rule| &policy.rules[rule]);
-            rules.filter(|rule| rule.accepts == accepted).map(|rule| changed(bounds, valuation, &rule.changes)).collect()
+            rules
+                .filter(|rule| rule.accepts == accepted)
+                .map(|rule| changed(bounds, valuation, &rule.changes))
+                .collect()
         }
     }
 }
@@ -118,7 +121,8 @@ fn changed(bounds: &[u8], valuation: &Valuation, changes: &[Change]) -> Valuatio
 fn fits(policy: &Policy, rule: &Rule, valuation: &[u8], request: usize) -> bool {
     let values = policy.frame.values(request);
     let through = rule.masks.iter().zip(&values).all(|(mask, value)| mask >> value & 1 == 1);
-    let is_true = |(test, &value): (&crate::policy::Test, &u8)| value >= test.at_least && (test.below == 0 || value < test.below);
+    let is_true =
+        |(test, &value): (&crate::policy::Test, &u8)| value >= test.at_least && (test.below == 0 || value < test.below);
     through && rule.tests.iter().zip(valuation).all(is_true)
 }
 
@@ -137,7 +141,8 @@ pub fn remarks(policy: &Policy, event: impl Fn(usize) -> String, variable: impl 
     let bounds = policy.bounds();
     let mut remarks = Vec::new();
     for (number, changes) in policy.events.iter().enumerate() {
-        let changes_something = changes.iter().zip(&bounds).any(|(change, &bound)| *change != Change::Nothing && bound > 0);
+        let changes_something =
+            changes.iter().zip(&bounds).any(|(change, &bound)| *change != Change::Nothing && bound > 0);
         if !changes_something {
             remarks.push(format!("the event {} changes nothing that is tested", event(number)));
         }

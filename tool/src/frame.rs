@@ -68,20 +68,14 @@ impl Frame {
 
     /// The number of the request that has these values.
     pub fn request(&self, values: &[usize]) -> usize {
-        self.counts
-            .iter()
-            .zip(values)
-            .fold(0, |number, (count, value)| number * count + value)
+        self.counts.iter().zip(values).fold(0, |number, (count, value)| number * count + value)
     }
 
     /// The step of a code below the width.
     pub fn step(&self, code: usize) -> Step {
         match code.checked_sub(self.events) {
             None => Step::Event(code),
-            Some(rest) => Step::Decided {
-                request: rest / 2,
-                accepted: rest % 2 == 0,
-            },
+            Some(rest) => Step::Decided { request: rest / 2, accepted: rest % 2 == 0 },
         }
     }
 
@@ -89,9 +83,7 @@ impl Frame {
     pub fn code(&self, step: Step) -> usize {
         match step {
             Step::Event(event) => event,
-            Step::Decided { request, accepted } => {
-                self.events + 2 * request + usize::from(!accepted)
-            }
+            Step::Decided { request, accepted } => self.events + 2 * request + usize::from(!accepted),
         }
     }
 }

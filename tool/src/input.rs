@@ -46,7 +46,10 @@ impl Failure {
     /// A failure that concerns a file and has no number.
     fn of_file(name: &str, message: String) -> Failure {
         Failure {
-            json: Json::Object(vec![("file", name.into()), ("error", Json::Object(vec![("message", message.clone().into())]))]),
+            json: Json::Object(vec![
+                ("file", name.into()),
+                ("error", Json::Object(vec![("message", message.clone().into())])),
+            ]),
             message: format!("{name}: {message}"),
         }
     }
@@ -58,7 +61,8 @@ impl Failure {
             [file] => ("file", Json::from(*file)),
             _ => ("files", files.iter().copied().collect()),
         };
-        let numbers = vec![("number", usize::from(number).into()), ("meaning", meaning.into()), ("place", place.clone().into())];
+        let numbers =
+            vec![("number", usize::from(number).into()), ("meaning", meaning.into()), ("place", place.clone().into())];
         Failure {
             message: format!("{}: refused by number {number}: {meaning}\n    {place}", files.join(", ")),
             json: Json::Object(vec![of, ("refused", Json::Object(numbers))]),
@@ -67,7 +71,10 @@ impl Failure {
 
     /// A failure of the way the tool is called.
     pub fn of_use(message: String) -> Failure {
-        Failure { json: Json::Object(vec![("error", Json::Object(vec![("message", message.clone().into())]))]), message }
+        Failure {
+            json: Json::Object(vec![("error", Json::Object(vec![("message", message.clone().into())]))]),
+            message,
+        }
     }
 }
 
@@ -94,9 +101,13 @@ pub struct Subject {
 
 /// Reads a file; `-` is standard input.
 pub fn read(name: &str) -> Result<Document, Failure> {
-    let bytes = read_bytes(name).map_err(|error| Failure::of_file(name, format!("cannot be read: {}", reason(&error))))?;
+    let bytes =
+        read_bytes(name).map_err(|error| Failure::of_file(name, format!("cannot be read: {}", reason(&error))))?;
     if bytes.len() as u64 > MOST_BYTES {
-        return Err(Failure::of_file(name, format!("has over {MOST_BYTES} bytes; no text, policy file or book is that long")));
+        return Err(Failure::of_file(
+            name,
+            format!("has over {MOST_BYTES} bytes; no text, policy file or book is that long"),
+        ));
     }
     let document = |kind, bytes, text| Document { name: name.to_string(), kind, bytes, text };
     if bytes.starts_with(b"BOK") {
@@ -142,7 +153,8 @@ fn decode_text<'a>(name: &str, bytes: &'a [u8]) -> Result<&'a str, Failure> {
         Failure::of_file(
             name,
             format!(
-                "is neither a policy file, which begins with POL, nor a book, which begins with BOK, nor a text in UTF-8: byte {at}, on line {line}, is {:02X}; a text is saved as UTF-8",
+                "is neither a policy file, which begins with POL, nor a book, which begins with BOK, nor a text in UTF-8: \
+                 byte {at}, on line {line}, is {:02X}; a text is saved as UTF-8",
                 bytes[at]
             ),
         )
@@ -284,7 +296,10 @@ impl Given {
         let names = self.for_frame(document, &policy.frame)?;
         match given == needed {
             true => Ok(names),
-            false => Err(Failure::of_file(&self.file, format!("names {given} variables, and {} has {needed}", document.name))),
+            false => Err(Failure::of_file(
+                &self.file,
+                format!("names {given} variables, and {} has {needed}", document.name),
+            )),
         }
     }
 }

@@ -107,10 +107,7 @@ pub fn verdict(book: &[u8]) -> Result<Findings, Number> {
 fn finding(value: u64, bit: u32, buffer: &[u8]) -> Option<Finding> {
     let part = value >> bit & 0xFFFF;
     let length = (part as usize % 256).checked_sub(1)?;
-    Some(Finding {
-        history: buffer[..length].to_vec(),
-        request: part as usize / 256,
-    })
+    Some(Finding { history: buffer[..length].to_vec(), request: part as usize / 256 })
 }
 
 /// The earliest history possible in just one of two books; nothing if the same

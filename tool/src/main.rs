@@ -43,12 +43,20 @@ fn refuse(failure: &Failure, arguments: &Arguments) -> u8 {
 fn deliver(answer: Answer, command: Command, arguments: &Arguments) -> u8 {
     let file = arguments.output.as_deref();
     if answer.binary && output::goes_to_terminal(file) {
-        return fail(&format!("policybook: the bytes are not for a terminal; name a file: policybook {} -o FILE ..", command.word()));
+        return fail(&format!(
+            "policybook: the bytes are not for a terminal; name a file: policybook {} -o FILE ..",
+            command.word()
+        ));
     }
-    for note in &answer.notes {
-        tell(note);
+    // where there is nothing to say, a named file stays as it was
+    let delivered = match file.is_some() && answer.output.is_empty() {
+        true => Ok(()),
+        false => output::deliver(&answer.output, file),
+    };
+    if delivered.is_ok() || answer.status == 2 {
+        answer.notes.iter().for_each(|note| tell(note));
     }
-    match output::deliver(&answer.output, file) {
+    match delivered {
         Ok(()) => answer.status,
         Err(message) => fail(&format!("policybook: {message}")),
     }

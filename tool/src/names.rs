@@ -26,23 +26,17 @@ impl Names {
         let numbered = |letter: char, count: usize| -> Vec<String> {
             (0..count).map(|number| format!("{letter}{number}")).collect()
         };
-        let fields = frame.counts.iter().zip('a'..).map(|(&count, letter)| Field {
-            name: letter.to_string(),
-            values: numbered(letter, count),
-        });
-        Names {
-            events: numbered('e', frame.events),
-            fields: fields.collect(),
-            variables: numbered('v', variables),
-        }
+        let fields = frame
+            .counts
+            .iter()
+            .zip('a'..)
+            .map(|(&count, letter)| Field { name: letter.to_string(), values: numbered(letter, count) });
+        Names { events: numbered('e', frame.events), fields: fields.collect(), variables: numbered('v', variables) }
     }
 
     /// The frame that these names are for.
     pub fn frame(&self) -> Frame {
-        Frame {
-            events: self.events.len(),
-            counts: self.fields.iter().map(|field| field.values.len()).collect(),
-        }
+        Frame { events: self.events.len(), counts: self.fields.iter().map(|field| field.values.len()).collect() }
     }
 
     /// An event's name, as it is written in a text.
@@ -53,12 +47,8 @@ impl Names {
     /// A request: the names of its values, one blank apart.
     pub fn request(&self, request: usize) -> String {
         let values = self.frame().values(request);
-        let names: Vec<String> = self
-            .fields
-            .iter()
-            .zip(values)
-            .map(|(field, value)| quoted(&field.values[value]))
-            .collect();
+        let names: Vec<String> =
+            self.fields.iter().zip(values).map(|(field, value)| quoted(&field.values[value])).collect();
         names.join(" ")
     }
 
@@ -73,6 +63,12 @@ impl Names {
         }
     }
 
+    /// Whether an event or a value has this name.
+    pub fn has(&self, name: &str) -> bool {
+        let values = self.fields.iter().flat_map(|field| &field.values);
+        self.events.iter().chain(values).any(|other| other == name)
+    }
+
     /// A history: its steps, a repeated one said once with the number of times.
     pub fn history(&self, codes: &[u8]) -> String {
         let steps: Vec<String> = codes
@@ -81,7 +77,7 @@ impl Names {
                 let step = self.step(usize::from(run[0]));
                 match run.len() {
                     1 => step,
-                    2 => format!("{step} twice"),
+                    2 if !self.has("twice") => format!("{step} twice"),
                     times => format!("{step} {times} times"),
                 }
             })

@@ -63,7 +63,14 @@ fn judge_header(bytes: &[u8]) -> Option<Refusal> {
         return refusal(3, format!("bytes 0 to 2 are {}", hex(&bytes[..3])));
     }
     if bytes[3] != 0 || !(1..=2).contains(&bytes[4]) {
-        return refusal(4, format!("bytes 3 and 4 are {}, which is version {}", hex(&bytes[3..5]), u16::from_be_bytes([bytes[3], bytes[4]])));
+        return refusal(
+            4,
+            format!(
+                "bytes 3 and 4 are {}, which is version {}",
+                hex(&bytes[3..5]),
+                u16::from_be_bytes([bytes[3], bytes[4]])
+            ),
+        );
     }
     let ranges = [
         ("events", 0, MOST_EVENTS),
@@ -88,25 +95,32 @@ fn judge_counts(bytes: &[u8]) -> Option<Refusal> {
     let counts = &bytes[HEADER..Layout::of(bytes).starts_at()];
     for (field, &count) in counts.iter().enumerate() {
         if count == 0 || usize::from(count) > MOST_VALUES {
-            return refusal(7, format!("byte {}, the number of values of field {field}, is {count}; it may be 1 to {MOST_VALUES}", HEADER + field));
+            return refusal(
+                7,
+                format!(
+                    "byte {}, the number of values of field {field}, is {count}; it may be 1 to {MOST_VALUES}",
+                    HEADER + field
+                ),
+            );
         }
     }
     let requests: usize = counts.iter().map(|&count| usize::from(count)).product();
     if requests > MOST_REQUESTS {
         let factors: Vec<String> = counts.iter().map(u8::to_string).collect();
-        return refusal(7, format!("bytes {HEADER} to {}, the numbers of values, make {} = {requests} requests; there may be {MOST_REQUESTS}", HEADER + counts.len() - 1, factors.join(" × ")));
+        let (last, product) = (HEADER + counts.len() - 1, factors.join(" × "));
+        let what = format!("bytes {HEADER} to {last}, the numbers of values, make {product} = {requests} requests");
+        return refusal(7, format!("{what}; there may be at most {MOST_REQUESTS}"));
     }
     None
 }
 
 fn judge_starts(bytes: &[u8]) -> Option<Refusal> {
     let layout = Layout::of(bytes);
-    for at in layout.starts_at()..layout.rule_at(0) {
-        if bytes[at] > MOST_NUMBER {
-            return refusal(17, format!("byte {at}, the starting value of variable {}, is {}; it may be 0 to {MOST_NUMBER}", at - layout.starts_at(), bytes[at]));
-        }
-    }
-    None
+    let starts = &bytes[layout.starts_at()..layout.rule_at(0)];
+    let variable = starts.iter().position(|&start| start > MOST_NUMBER)?;
+    let (at, start) = (layout.starts_at() + variable, starts[variable]);
+    let what = format!("byte {at}, the starting value of variable {variable}, is {start}");
+    refusal(17, format!("{what}; it may be 0 to {MOST_NUMBER}"))
 }
 
 fn judge_masks(bytes: &[u8]) -> Option<Refusal> {
@@ -116,12 +130,24 @@ fn judge_masks(bytes: &[u8]) -> Option<Refusal> {
             let at = layout.rule_at(rule) + 2 * field;
             let mask = u16::from_be_bytes([bytes[at], bytes[at + 1]]);
             let values = u32::from(bytes[HEADER + field]);
-            let place = format!("rule {}, field {field}: bytes {at} and {}, the mask, are {}", rule + 1, at + 1, hex(&bytes[at..at + 2]));
+            let place = format!(
+                "rule {}, field {field}: bytes {at} and {}, the mask, are {}",
+                rule + 1,
+                at + 1,
+                hex(&bytes[at..at + 2])
+            );
             if mask == 0 {
                 return refusal(8, format!("{place}, which lets no value through"));
             }
             if u32::from(mask) >> values != 0 {
-                return refusal(8, format!("{place}, which lets value {} through; the field's values are 0 to {}", mask.ilog2(), values - 1));
+                return refusal(
+                    8,
+                    format!(
+                        "{place}, which lets value {} through; the field's values are 0 to {}",
+                        mask.ilog2(),
+                        values - 1
+                    ),
+                );
             }
         }
     }
@@ -133,25 +159,43 @@ fn judge_values(bytes: &[u8]) -> Option<Refusal> {
     for rule in 0..layout.rules {
         let decision = layout.rule_at(rule) + 2 * layout.fields;
         if bytes[decision] > 1 {
-            return refusal(9, format!("rule {}: byte {decision}, the decision, is {}; it may be 0 (reject) or 1 (accept)", rule + 1, bytes[decision]));
+            return refusal(
+                9,
+                format!(
+                    "rule {}: byte {decision}, the decision, is {}; it may be 0 (reject) or 1 (accept)",
+                    rule + 1,
+                    bytes[decision]
+                ),
+            );
         }
         for variable in 0..layout.variables {
             let part = decision + 2 + 3 * variable;
             let limits = [("test ≥", MOST_NUMBER), ("test <", MOST_NUMBER), ("change", 2)];
             for (at, (what, most)) in (part..).zip(limits) {
                 if bytes[at] > most {
-                    return refusal(9, format!("rule {}, variable {variable}: byte {at}, the {what}, is {}; it may be 0 to {most}", rule + 1, bytes[at]));
+                    return refusal(
+                        9,
+                        format!(
+                            "rule {}, variable {variable}: byte {at}, the {what}, is {}; it may be 0 to {most}",
+                            rule + 1,
+                            bytes[at]
+                        ),
+                    );
                 }
             }
         }
     }
-    for at in layout.event_at(0)..layout.length() {
-        if bytes[at] > 2 {
-            let (event, variable) = ((at - layout.event_at(0)) / layout.variables, (at - layout.event_at(0)) % layout.variables);
-            return refusal(9, format!("event {event}, variable {variable}: byte {at}, the change, is {}; it may be 0 to 2", bytes[at]));
-        }
-    }
-    None
+    judge_changes(bytes, &layout)
+}
+
+/// What the events change.
+fn judge_changes(bytes: &[u8], layout: &Layout) -> Option<Refusal> {
+    let first = layout.event_at(0);
+    let place = bytes[first..layout.length()].iter().position(|&change| change > 2)?;
+    let (event, variable) = (place / layout.variables, place % layout.variables);
+    let at = first + place;
+    let what = format!("event {event}, variable {variable}: byte {at}, the change, is {}", bytes[at]);
+    refusal(9, format!("{what}; it may be 0 to 2"))
 }
 
 fn judge_valuations(bytes: &[u8]) -> Option<Refusal> {
@@ -168,10 +212,15 @@ pub fn counting_place(number: u8, policy: &Policy, names: &Names, lines: Option<
     let bounds = policy.bounds();
     let tested: Vec<(usize, &String)> =
         bounds.iter().map(|&bound| usize::from(bound)).zip(&names.variables).filter(|(bound, _)| *bound > 0).collect();
-    let counts: Vec<String> = tested.iter().map(|(bound, name)| format!("{} counts to {bound}", quoted(name))).collect();
+    let counts: Vec<String> =
+        tested.iter().map(|(bound, name)| format!("{} counts to {bound}", quoted(name))).collect();
     let factors: Vec<String> = tested.iter().map(|(bound, _)| (bound + 1).to_string()).collect();
     let valuations: usize = tested.iter().map(|(bound, _)| bound + 1).product();
-    format!("{}, the greatest numbers of their tests, which makes {} = {valuations} valuations", counts.join(", "), factors.join(" × "))
+    format!(
+        "{}, the greatest numbers of their tests, which makes {} = {valuations} valuations",
+        counts.join(", "),
+        factors.join(" × ")
+    )
 }
 
 /// Over 127 situations are reached only where two rules may fit together that
@@ -185,7 +234,10 @@ fn forking_place(policy: &Policy, lines: Option<&[usize]>) -> String {
         Some((one, other)) => format!("{} and {}", rule_place(one, lines), rule_place(other, lines)),
         None => "some rules".to_string(),
     };
-    format!("{which} may fit the same request at one level and decide the same, but change differently, so that it is not known which was carried out; put both changes into one rule, or give one rule a greater level, or count less far")
+    format!(
+        "{which} may fit the same request at one level and decide the same, but change differently, so that it is not \
+         known which was carried out; put both changes into one rule, or give one rule a greater level, or count less far"
+    )
 }
 
 /// A rule, counted from 0, by its number from 1 and its line.
@@ -208,9 +260,7 @@ fn fork(one: &Rule, other: &Rule) -> bool {
 
 /// The row 12 to 14 that refuses a book, and its place.
 pub fn judge_book(bytes: &[u8]) -> Option<Refusal> {
-    judge_book_mark(bytes)
-        .or_else(|| judge_book_header(bytes))
-        .or_else(|| judge_entries(bytes))
+    judge_book_mark(bytes).or_else(|| judge_book_header(bytes)).or_else(|| judge_entries(bytes))
 }
 
 fn judge_book_mark(bytes: &[u8]) -> Option<Refusal> {
@@ -221,7 +271,14 @@ fn judge_book_mark(bytes: &[u8]) -> Option<Refusal> {
         return refusal(12, format!("bytes 0 to 2 are {}", hex(&bytes[..3])));
     }
     if bytes[3..5] != [0, 1] {
-        return refusal(12, format!("bytes 3 and 4 are {}, which is version {}", hex(&bytes[3..5]), u16::from_be_bytes([bytes[3], bytes[4]])));
+        return refusal(
+            12,
+            format!(
+                "bytes 3 and 4 are {}, which is version {}",
+                hex(&bytes[3..5]),
+                u16::from_be_bytes([bytes[3], bytes[4]])
+            ),
+        );
     }
     None
 }
@@ -234,19 +291,29 @@ fn judge_book_header(bytes: &[u8]) -> Option<Refusal> {
             return refusal(13, format!("byte {at}, the number of {what}, is {number}; it may be {least} to {most}"));
         }
     }
+    judge_book_counts(bytes).or_else(|| judge_book_length(bytes))
+}
+
+fn judge_book_counts(bytes: &[u8]) -> Option<Refusal> {
     let (present, absent) = bytes[7..11].split_at(usize::from(bytes[6]));
-    for (at, &count) in (7..).zip(present) {
+    for (field, &count) in present.iter().enumerate() {
         if count == 0 || usize::from(count) > MOST_VALUES {
-            return refusal(13, format!("byte {at}, the number of values of field {}, is {count}; it may be 1 to {MOST_VALUES}", at - 7));
+            let what = format!("byte {}, the number of values of field {field}, is {count}", 7 + field);
+            return refusal(13, format!("{what}; it may be 1 to {MOST_VALUES}"));
         }
     }
-    if let Some(after) = absent.iter().position(|&count| count != 0) {
-        let at = 7 + present.len() + after;
-        return refusal(13, format!("byte {at}, the number of values of field {}, which the book has not, is {}; it may be 0", at - 7, bytes[at]));
-    }
+    let field = present.len() + absent.iter().position(|&count| count != 0)?;
+    let (at, count) = (7 + field, bytes[7 + field]);
+    let what = format!("byte {at}, the number of values of field {field}, which the book has not, is {count}");
+    refusal(13, format!("{what}; it may be 0"))
+}
+
+fn judge_book_length(bytes: &[u8]) -> Option<Refusal> {
+    let present = &bytes[7..7 + usize::from(bytes[6])];
     let requests: usize = present.iter().map(|&count| usize::from(count)).product();
     if requests > MOST_REQUESTS {
-        return refusal(13, format!("the numbers of values make {requests} requests; there may be {MOST_REQUESTS}"));
+        let what = format!("the numbers of values make {requests} requests");
+        return refusal(13, format!("{what}; there may be at most {MOST_REQUESTS}"));
     }
     let needs = 12 + usize::from(bytes[11]) * (usize::from(bytes[5]) + 2 * requests);
     if bytes.len() != needs {
@@ -261,10 +328,19 @@ fn judge_entries(bytes: &[u8]) -> Option<Refusal> {
     for (at, &entry) in bytes.iter().enumerate().skip(12) {
         let (state, code) = ((at - 12) / width + 1, (at - 12) % width);
         if entry > states {
-            return refusal(14, format!("byte {at}, where code {code} leads from state {state}, is {entry}; there are {}", count(usize::from(states), "state")));
+            return refusal(
+                14,
+                format!(
+                    "byte {at}, where code {code} leads from state {state}, is {entry}; there are {}",
+                    count(usize::from(states), "state")
+                ),
+            );
         }
         if entry == 0 && code < events {
-            return refusal(14, format!("byte {at}, where event {code} leads from state {state}, is 0; an event is always possible"));
+            return refusal(
+                14,
+                format!("byte {at}, where event {code} leads from state {state}, is 0; an event is always possible"),
+            );
         }
     }
     None

@@ -31,7 +31,8 @@ fn order(names: &Names, other: &Names) -> Option<Order> {
     let field_names = |names: &Names| -> Vec<String> { names.fields.iter().map(|field| field.name.clone()).collect() };
     let by_name = places(&field_names(names), &field_names(other));
     // Fields that are called otherwise stand in the same order.
-    let fields = by_name.or_else(|| (names.fields.len() == other.fields.len()).then(|| (0..names.fields.len()).collect()))?;
+    let fields =
+        by_name.or_else(|| (names.fields.len() == other.fields.len()).then(|| (0..names.fields.len()).collect()))?;
     let fields: Option<Vec<(usize, Vec<usize>)>> = fields
         .into_iter()
         .zip(&other.fields)

@@ -19,12 +19,7 @@ const PAIRS: u64 = 3_000;
 
 /// A book, as the differential test has them: built, foreign, late or damaged.
 fn some_book(number: u64) -> (Vec<u8>, String) {
-    let kinds = [
-        "book",
-        "damaged-book",
-        "late-finding-book",
-        "late-outcome-book",
-    ];
+    let kinds = ["book", "damaged-book", "late-finding-book", "late-outcome-book"];
     match number % 8 {
         0..=2 => {
             let (policy, input) = policy_file(number);
@@ -41,10 +36,7 @@ fn some_book(number: u64) -> (Vec<u8>, String) {
 
 fn finding(found: &Option<Finding>) -> Option<RequestFinding> {
     let found = found.clone()?;
-    Some(RequestFinding {
-        request: found.request,
-        history: found.history,
-    })
+    Some(RequestFinding { request: found.request, history: found.history })
 }
 
 /// Findings and page of a book that is not refused.
@@ -53,11 +45,7 @@ fn check_book(bytes: &[u8], book: &Book, input: &str) {
     assert_eq!(finding(&found.conflict), expected.conflict, "{input}");
     assert_eq!(finding(&found.missing), expected.missing, "{input}");
     let blocked = found.blocked.map(|found| (found.history, found.request));
-    assert_eq!(
-        blocked,
-        expected.blocked.map(|history| (history, 0)),
-        "{input}"
-    );
+    assert_eq!(blocked, expected.blocked.map(|history| (history, 0)), "{input}");
     let page = library::page(bytes).expect(input);
     assert_eq!(page, page::page(book).into_bytes(), "{input}");
 }
@@ -90,11 +78,7 @@ fn answers_on_books_are_the_reference_answers() {
 fn comparisons_are_the_reference_comparisons() {
     let mut met = Met::default();
     for number in 0..PAIRS {
-        let build = |policy: Vec<u8>| {
-            book::build(&policy)
-                .map(|book| book.to_bytes())
-                .unwrap_or_default()
-        };
+        let build = |policy: Vec<u8>| book::build(&policy).map(|book| book.to_bytes()).unwrap_or_default();
         let both = |(first, second)| (build(first), build(second));
         let (first, second) = match number % 8 {
             0 | 1 => both(generate::policy_pair(number)),
@@ -113,11 +97,7 @@ fn comparisons_are_the_reference_comparisons() {
         met.note("different", matches!(expected, Ok(Some(_))));
         met.note("refused", expected.is_err());
         assert_eq!(library::compare(&first, &second), expected, "pair {number}");
-        assert_eq!(
-            library::same_bytes(&first, &second),
-            first == second,
-            "pair {number}"
-        );
+        assert_eq!(library::same_bytes(&first, &second), first == second, "pair {number}");
     }
     met.each_at_least(100);
 }
@@ -134,11 +114,7 @@ fn named_bytes(place: &str) -> Vec<usize> {
             "bytes" => &[1, 3],
             _ => &[],
         };
-        bytes.extend(
-            behind
-                .iter()
-                .filter_map(|behind| words.get(at + behind).and_then(number)),
-        );
+        bytes.extend(behind.iter().filter_map(|behind| words.get(at + behind).and_then(number)));
     }
     bytes
 }
@@ -180,12 +156,7 @@ fn policies_have_the_reference_book_or_number_and_a_place() {
         assert_eq!(row, expected.filter(|&row| row != 11), "{input}");
         if let Some(refusal) = found.filter(|refusal| refusal.number != 10) {
             let bare = [2, 6].contains(&refusal.number);
-            assert_eq!(
-                named_bytes(&refusal.place).is_empty(),
-                bare,
-                "{}",
-                refusal.place
-            );
+            assert_eq!(named_bytes(&refusal.place).is_empty(), bare, "{}", refusal.place);
             check_place(&refusal, &bytes, &input);
         }
     }
@@ -198,14 +169,8 @@ fn refused_books_have_the_reference_number_and_a_place() {
     for number in 0..2 * BOOKS {
         let (bytes, input) = match number % 4 {
             0 => some_book(number),
-            1 => (
-                generate::faulty_pair(number).0,
-                format!("the first of faulty pair {number}"),
-            ),
-            _ => (
-                generate::damaged_book(number),
-                format!("generate damaged-book {number}"),
-            ),
+            1 => (generate::faulty_pair(number).0, format!("the first of faulty pair {number}")),
+            _ => (generate::damaged_book(number), format!("generate damaged-book {number}")),
         };
         let expected = book::read(&bytes).err().map(|refusal| refusal.number());
         for row in 12..=14 {
@@ -213,11 +178,7 @@ fn refused_books_have_the_reference_number_and_a_place() {
         }
         met.note("good", expected.is_none());
         let found = judge_book(&bytes);
-        assert_eq!(
-            found.as_ref().map(|refusal| refusal.number),
-            expected,
-            "{input}"
-        );
+        assert_eq!(found.as_ref().map(|refusal| refusal.number), expected, "{input}");
         if let Some(refusal) = found {
             check_place(&refusal, &bytes, &input);
         }

@@ -25,12 +25,7 @@ const INVENTORY: u64 = 600;
 fn codes(history: &Value, subject: &Subject, book: &Book) -> History {
     let code = |step: &Value| {
         let code = step.get("code").number();
-        assert_eq!(
-            step.get("name").text(),
-            subject.step(book, code),
-            "{}",
-            subject.input
-        );
+        assert_eq!(step.get("name").text(), subject.step(book, code), "{}", subject.input);
         code as u8
     };
     history.list().iter().map(code).collect()
@@ -52,18 +47,11 @@ fn superfluous(bytes: &[u8], book: &Book) -> (Vec<usize>, bool) {
     let policy = policy::read(bytes).expect("a policy that has a book");
     let same = |left_out: &[usize]| {
         let rules = policy.rules.iter().enumerate();
-        let kept = rules
-            .filter(|(rule, _)| !left_out.contains(&(rule + 1)))
-            .map(|(_, rule)| rule.clone());
-        let less = Policy {
-            rules: kept.collect(),
-            ..policy.clone()
-        };
+        let kept = rules.filter(|(rule, _)| !left_out.contains(&(rule + 1))).map(|(_, rule)| rule.clone());
+        let less = Policy { rules: kept.collect(), ..policy.clone() };
         build(&policy::write(&less)).as_ref() == Ok(book)
     };
-    let alone: Vec<usize> = (1..=policy.rules.len())
-        .filter(|&rule| same(&[rule]))
-        .collect();
+    let alone: Vec<usize> = (1..=policy.rules.len()).filter(|&rule| same(&[rule])).collect();
     let together = alone.len() > 1 && same(&alone);
     (alone, together)
 }
@@ -72,18 +60,11 @@ fn superfluous(bytes: &[u8], book: &Book) -> (Vec<usize>, bool) {
 fn check_lines(superfluous: &Value, subject: &Subject) {
     let text = std::fs::read(&subject.file).expect("the file");
     let text = String::from_utf8_lossy(&text);
-    let rules = (1..)
-        .zip(text.lines())
-        .filter(|(_, line)| line.starts_with("rule "));
+    let rules = (1..).zip(text.lines()).filter(|(_, line)| line.starts_with("rule "));
     let lines: Vec<usize> = rules.map(|(number, _)| number).collect();
     for rule in superfluous.list() {
         let line = (subject.kind == "text").then(|| lines[rule.get("rule").number() - 1]);
-        assert_eq!(
-            rule.get("line").maybe(Value::number),
-            line,
-            "{}",
-            subject.input
-        );
+        assert_eq!(rule.get("line").maybe(Value::number), line, "{}", subject.input);
     }
 }
 
@@ -94,19 +75,9 @@ fn check_found(found: &Value, subject: &Subject, book: &Book, met: &mut Met) -> 
     let pair = |found: reference::findings::RequestFinding| (found.request, found.history);
     assert_eq!(found.get("kind").text(), subject.kind, "{input}");
     assert_eq!(found.get("states").number(), book.states(), "{input}");
-    assert_eq!(
-        about("conflict"),
-        expected.conflict.clone().map(pair),
-        "{input}"
-    );
-    assert_eq!(
-        about("missing"),
-        expected.missing.clone().map(pair),
-        "{input}"
-    );
-    let blocked = found
-        .get("blocked")
-        .maybe(|found| codes(found.get("history"), subject, book));
+    assert_eq!(about("conflict"), expected.conflict.clone().map(pair), "{input}");
+    assert_eq!(about("missing"), expected.missing.clone().map(pair), "{input}");
+    let blocked = found.get("blocked").maybe(|found| codes(found.get("history"), subject, book));
     assert_eq!(blocked, expected.blocked, "{input}");
     let (alone, together) = match subject.kind {
         "book" => (Vec::new(), false),
@@ -114,21 +85,14 @@ fn check_found(found: &Value, subject: &Subject, book: &Book, met: &mut Met) -> 
     };
     assert_eq!(found.get("superfluous").each("rule"), alone, "{input}");
     check_lines(found.get("superfluous"), subject);
-    assert_eq!(
-        *found.get("superfluous_together"),
-        Value::Bool(together),
-        "{input}"
-    );
+    assert_eq!(*found.get("superfluous_together"), Value::Bool(together), "{input}");
     let rules = (subject.kind != "book").then(|| usize::from(subject.bytes[8]));
     assert_eq!(found.get("rules").maybe(Value::number), rules, "{input}");
     met.note("a conflict", expected.conflict.is_some());
     met.note("a request missing", expected.missing.is_some());
     met.note("blocked", expected.blocked.is_some());
     met.note("superfluous together", together);
-    met.note(
-        "superfluous, but not together",
-        alone.len() > 1 && !together,
-    );
+    met.note("superfluous, but not together", alone.len() > 1 && !together);
     expected.conflict.is_some() || expected.missing.is_some() || expected.blocked.is_some()
 }
 
@@ -142,27 +106,13 @@ fn check_place(row: u8, place: &str, subject: &Subject) {
     let policy = policybook::policy::Policy::decode(&subject.bytes).expect("a policy");
     if row == 10 {
         let tests = |variable: usize| policy.rules.iter().map(move |rule| rule.tests[variable]);
-        let bound = |variable| {
-            tests(variable)
-                .map(|test| test.at_least.max(test.below))
-                .max()
-        };
-        let values =
-            (0..policy.starts.len()).map(|variable| usize::from(bound(variable).unwrap_or(0)) + 1);
+        let bound = |variable| tests(variable).map(|test| test.at_least.max(test.below)).max();
+        let values = (0..policy.starts.len()).map(|variable| usize::from(bound(variable).unwrap_or(0)) + 1);
         let valuations: usize = values.product();
-        assert!(
-            place.contains(&format!("= {valuations} valuations")),
-            "{}: {place}",
-            subject.input
-        );
+        assert!(place.contains(&format!("= {valuations} valuations")), "{}: {place}", subject.input);
         return;
     }
-    let digits = |rest: &str| {
-        rest.split(|letter: char| !letter.is_ascii_digit())
-            .next()?
-            .parse()
-            .ok()
-    };
+    let digits = |rest: &str| rest.split(|letter: char| !letter.is_ascii_digit()).next()?.parse().ok();
     let rules: Vec<usize> = place.split("rule ").skip(1).filter_map(digits).collect();
     let [one, other] = [0, 1].map(|place| &policy.rules[rules[place] - 1]);
     let mut masks = one.masks.iter().zip(&other.masks);
@@ -182,23 +132,14 @@ fn check_file(found: &Value, subject: &Subject, met: &mut Met) -> i32 {
         met.note(&format!("row {row}"), refused == Some(row));
     }
     if !subject.has_mark() && subject.kind != "text" || subject.has_wrong_mark() {
-        assert!(
-            found.find("states").is_none(),
-            "{}: {found:?}",
-            subject.input
-        );
+        assert!(found.find("states").is_none(), "{}: {found:?}", subject.input);
         return 2;
     }
     match subject.book() {
         Ok(book) => i32::from(check_found(found, subject, &book, met)),
         Err(row) => {
             let refused = found.get("refused");
-            assert_eq!(
-                refused.get("number").number(),
-                usize::from(row),
-                "{}",
-                subject.input
-            );
+            assert_eq!(refused.get("number").number(), usize::from(row), "{}", subject.input);
             check_place(row, refused.get("place").text(), subject);
             2
         }
@@ -210,21 +151,13 @@ fn findings_are_the_reference_findings() {
     let folder = Folder::new("findings");
     let mut met = Met::default();
     for first in (0..CHECKED).step_by(AT_ONCE as usize) {
-        let subjects: Vec<Subject> = (first..first + AT_ONCE)
-            .map(|number| Subject::new(number, &folder))
-            .collect();
-        let files: Vec<&str> = subjects
-            .iter()
-            .map(|subject| subject.file.as_str())
-            .collect();
+        let subjects: Vec<Subject> = (first..first + AT_ONCE).map(|number| Subject::new(number, &folder)).collect();
+        let files: Vec<&str> = subjects.iter().map(|subject| subject.file.as_str()).collect();
         let ran = run(&[&["check", "--json"][..], &files].concat(), &[]);
         let found = read(ran.text());
         let found = found.get("files").list();
         assert_eq!(found.len(), subjects.len());
-        let statuses = found
-            .iter()
-            .zip(&subjects)
-            .map(|(found, subject)| check_file(found, subject, &mut met));
+        let statuses = found.iter().zip(&subjects).map(|(found, subject)| check_file(found, subject, &mut met));
         assert_eq!(ran.status, statuses.max().expect("a file"));
     }
     met.each_at_least(5);
@@ -240,15 +173,7 @@ fn pair(number: u64, folder: &Folder) -> [Subject; 2] {
         4 => (["book", "book"], generate::longest_pair(number)),
         _ => (["book", "book"], generate::faulty_pair(number)),
     };
-    let subject = |kind, bytes, place| {
-        Subject::of(
-            kind,
-            bytes,
-            format!("pair {number}"),
-            2 * number + place,
-            folder,
-        )
-    };
+    let subject = |kind, bytes, place| Subject::of(kind, bytes, format!("pair {number}"), 2 * number + place, folder);
     [subject(kinds[0], bytes.0, 0), subject(kinds[1], bytes.1, 1)]
 }
 
@@ -260,26 +185,14 @@ fn check_compared(pair: &[Subject; 2], books: [Book; 2], met: &mut Met) {
     let expected = compare_books(&books[0], &books[1]);
     met.note("same", expected == Comparison::Same);
     met.note("different", expected != Comparison::Same);
-    assert_eq!(
-        *found.get("same"),
-        Value::Bool(expected == Comparison::Same),
-        "{input}"
-    );
+    assert_eq!(*found.get("same"), Value::Bool(expected == Comparison::Same), "{input}");
     let Comparison::Differ(history) = expected else {
-        assert_eq!(
-            (ran.status, found.get("history")),
-            (0, &Value::Null),
-            "{input}"
-        );
+        assert_eq!((ran.status, found.get("history")), (0, &Value::Null), "{input}");
         assert_eq!(*found.get("possible_in"), Value::Null, "{input}");
         return;
     };
     let named = usize::from(pair[1].kind == "text");
-    assert_eq!(
-        codes(found.get("history"), &pair[named], &books[0]),
-        history,
-        "{input}"
-    );
+    assert_eq!(codes(found.get("history"), &pair[named], &books[0]), history, "{input}");
     let allows = [0, 1].map(|place| books[place].allows(&history));
     assert_ne!(allows[0], allows[1], "{input}");
     let place = usize::from(allows[1]);
@@ -296,16 +209,12 @@ fn comparisons_are_the_reference_comparisons() {
     for number in 0..COMPARED {
         let pair = pair(number, &folder);
         match (pair[0].book(), pair[1].book()) {
-            (Ok(first), Ok(second)) if first.frame == second.frame => {
-                check_compared(&pair, [first, second], &mut met)
-            }
+            (Ok(first), Ok(second)) if first.frame == second.frame => check_compared(&pair, [first, second], &mut met),
             (first, second) => {
                 let row = first.err().or(second.err()).unwrap_or(15);
                 let ran = run(&["compare", &pair[0].file, &pair[1].file], &[]);
                 assert_eq!((ran.status, ran.text()), (2, ""), "{}", pair[0].input);
-                let marks = pair
-                    .iter()
-                    .all(|subject| subject.kind == "text" || subject.has_mark());
+                let marks = pair.iter().all(|subject| subject.kind == "text" || subject.has_mark());
                 let told = ran.errors.contains(&format!("number {row}:"));
                 assert!(told || !marks, "{}: {row}, {}", pair[0].input, ran.errors);
                 met.note("refused", told);
@@ -327,10 +236,7 @@ fn groups(subjects: &[Subject]) -> Vec<(usize, Vec<&str>)> {
             None => groups.push((book, vec![&subject.file])),
         }
     }
-    groups
-        .into_iter()
-        .map(|(book, files)| (book.states(), files))
-        .collect()
+    groups.into_iter().map(|(book, files)| (book.states(), files)).collect()
 }
 
 #[test]
@@ -340,41 +246,22 @@ fn the_inventory_groups_equal_books() {
     for number in 0..INVENTORY / 2 {
         subjects.extend(pair(number / 2 * 6 + number % 3, &folder));
     }
-    let files: Vec<&str> = subjects
-        .iter()
-        .map(|subject| subject.file.as_str())
-        .collect();
+    let files: Vec<&str> = subjects.iter().map(|subject| subject.file.as_str()).collect();
     let ran = run(&[&["inventory", "--json"][..], &files].concat(), &[]);
     let found = read(ran.text());
     let group = |group: &Value| {
-        let files: Vec<String> = group
-            .get("files")
-            .list()
-            .iter()
-            .map(|file| file.text().to_string())
-            .collect();
+        let files: Vec<String> = group.get("files").list().iter().map(|file| file.text().to_string()).collect();
         (group.get("states").number(), files)
     };
-    let found_groups: Vec<(usize, Vec<String>)> =
-        found.get("groups").list().iter().map(group).collect();
+    let found_groups: Vec<(usize, Vec<String>)> = found.get("groups").list().iter().map(group).collect();
     let expected = groups(&subjects);
-    let named: Vec<(usize, Vec<&str>)> = found_groups
-        .iter()
-        .map(|(states, files)| (*states, files.iter().map(String::as_str).collect()))
-        .collect();
+    let named: Vec<(usize, Vec<&str>)> =
+        found_groups.iter().map(|(states, files)| (*states, files.iter().map(String::as_str).collect())).collect();
     assert_eq!(named, expected);
     assert!(expected.iter().filter(|(_, files)| files.len() > 1).count() > 10);
-    let refused: Vec<&str> = subjects
-        .iter()
-        .filter(|subject| subject.book().is_err())
-        .map(|subject| subject.file.as_str())
-        .collect();
-    let failures: Vec<&str> = found
-        .get("failures")
-        .list()
-        .iter()
-        .map(|failure| failure.get("file").text())
-        .collect();
+    let refused: Vec<&str> =
+        subjects.iter().filter(|subject| subject.book().is_err()).map(|subject| subject.file.as_str()).collect();
+    let failures: Vec<&str> = found.get("failures").list().iter().map(|failure| failure.get("file").text()).collect();
     assert_eq!(failures, refused);
     assert_eq!(ran.status, if refused.is_empty() { 0 } else { 2 });
 }
@@ -388,9 +275,6 @@ fn names_of_files_are_escaped() {
     for (file, status) in [(&good, 0), (&bad, 2)] {
         let ran = run(&["check", "--json", file], &[]);
         assert_eq!(ran.status, status);
-        assert_eq!(
-            read(ran.text()).get("files").list()[0].get("file").text(),
-            file
-        );
+        assert_eq!(read(ran.text()).get("files").list()[0].get("file").text(), file);
     }
 }

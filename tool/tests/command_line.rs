@@ -6,18 +6,8 @@ mod common;
 use common::run::{run, Folder};
 
 /// The words of the commands.
-const COMMANDS: [&str; 10] = [
-    "check",
-    "build",
-    "compile",
-    "print",
-    "compare",
-    "after",
-    "way",
-    "page",
-    "draw",
-    "inventory",
-];
+const COMMANDS: [&str; 10] =
+    ["check", "build", "compile", "print", "compare", "after", "way", "page", "draw", "inventory"];
 
 /// Rules with no findings.
 const GOOD: &str = "events midnight
@@ -71,12 +61,7 @@ fn files(name: &str) -> Files {
 fn status(words: &[&str], expected: i32) {
     let ran = run(words, &[]);
     assert_eq!(ran.status, expected, "{words:?}\n{}", ran.errors);
-    assert_eq!(
-        ran.errors.is_empty(),
-        expected != 2,
-        "{words:?}\n{}",
-        ran.errors
-    );
+    assert_eq!(ran.errors.is_empty(), expected != 2, "{words:?}\n{}", ran.errors);
 }
 
 #[test]
@@ -98,16 +83,9 @@ fn statuses_of_check_and_compare() {
     }
     let ran = run(&["check", &f.bad, &f.conflict, &f.good], &[]);
     assert_eq!(ran.status, 2);
-    let lines: Vec<&str> = ran
-        .text()
-        .lines()
-        .filter(|line| !line.starts_with(' '))
-        .collect();
+    let lines: Vec<&str> = ran.text().lines().filter(|line| !line.starts_with(' ')).collect();
     assert_eq!(lines.len(), 2, "both other files are told: {lines:?}");
-    assert!(
-        lines[0].starts_with(&f.conflict) && lines[1].starts_with(&f.good),
-        "{lines:?}"
-    );
+    assert!(lines[0].starts_with(&f.conflict) && lines[1].starts_with(&f.good), "{lines:?}");
 }
 
 #[test]
@@ -132,11 +110,7 @@ fn statuses_of_the_writing_commands() {
     status(&["print", &f.large], 0);
     let compiled = run(&["compile", &f.large], &[]);
     assert_eq!(compiled.status, 0);
-    assert!(
-        compiled.errors.contains("number 10") && compiled.errors.contains("v counts to 60"),
-        "{}",
-        compiled.errors
-    );
+    assert!(compiled.errors.contains("number 10") && compiled.errors.contains("v counts to 60"), "{}", compiled.errors);
     assert_eq!(&compiled.output[..3], b"POL");
     status(&["inventory", &f.good, &f.bad], 2);
 }
@@ -159,19 +133,13 @@ fn statuses_of_after_and_way() {
     let render = ["render", "accepted"];
     status(&["after", &f.good, "render", "accepted,", "midnight"], 0);
     status(&[&["after", &f.good][..], &render, &render].concat(), 0);
-    status(
-        &[&["after", &f.good][..], &render, &render, &render].concat(),
-        2,
-    );
+    status(&[&["after", &f.good][..], &render, &render, &render].concat(), 2);
     status(&["way", &f.good, "render", "reject"], 0);
     status(&["way", &f.good, "render", "both"], 1);
     status(&["way", &f.conflict, "drawing", "3"], 0);
     status(&["draw", "--finding", "conflict", &f.conflict], 0);
     status(&["draw", "--finding", "missing", &f.conflict], 2);
-    status(
-        &["draw", "--after", "render accepted, midnight", &f.good],
-        0,
-    );
+    status(&["draw", "--after", "render accepted, midnight", &f.good], 0);
     status(&["draw", "--after", "render rejected", &f.good], 2);
 }
 
@@ -230,11 +198,7 @@ fn wrong_use() {
         let words: Vec<&str> = words.iter().map(String::as_str).collect();
         let ran = run(&words, GOOD.as_bytes());
         assert_eq!((ran.status, ran.text()), (2, ""), "{words:?}");
-        assert!(
-            ran.errors.starts_with("policybook: "),
-            "{words:?}: {}",
-            ran.errors
-        );
+        assert!(ran.errors.starts_with("policybook: "), "{words:?}: {}", ran.errors);
         assert!(ran.errors.contains("--help`"), "{words:?}: {}", ran.errors);
     }
 }
@@ -244,15 +208,10 @@ fn help_and_version() {
     let help = run(&["--help"], &[]);
     assert_eq!((help.status, help.errors.as_str()), (0, ""));
     for command in COMMANDS {
-        assert!(
-            help.text().contains(&format!("policybook {command} ")),
-            "{command}"
-        );
+        assert!(help.text().contains(&format!("policybook {command} ")), "{command}");
         let own = run(&["help", command], &[]);
         assert_eq!((own.status, own.errors.as_str()), (0, ""), "{command}");
-        assert!(own
-            .text()
-            .starts_with(&format!("usage: policybook {command} ")));
+        assert!(own.text().starts_with(&format!("usage: policybook {command} ")));
         for words in [[command, "--help"], [command, "-h"]] {
             assert_eq!(run(&words, &[]).output, own.output);
         }
@@ -276,42 +235,22 @@ fn files_are_told_apart_by_their_contents() {
     let f = files("contents");
     let read = |name: &str| std::fs::read(name).expect("a file");
     let marked = [b"\xEF\xBB\xBF", GOOD.as_bytes()].concat();
-    for (bytes, kind) in [
-        (GOOD.into(), "text"),
-        (marked, "text"),
-        (read(&f.policy), "policy"),
-        (read(&f.book), "book"),
-    ] {
+    for (bytes, kind) in [(GOOD.into(), "text"), (marked, "text"), (read(&f.policy), "policy"), (read(&f.book), "book")]
+    {
         for name in ["x.txt", "x.policy", "x.book", "-x", "x"] {
             f.folder.file(name, &bytes);
             let name = f.folder.name(name);
             let ran = run(&["check", "--json", &name], &[]);
             assert_eq!(ran.status, 0, "{}", ran.errors);
-            assert!(
-                ran.text().contains(&format!("\"kind\": \"{kind}\"")),
-                "{name}: {}",
-                ran.text()
-            );
+            assert!(ran.text().contains(&format!("\"kind\": \"{kind}\"")), "{name}: {}", ran.text());
         }
         let piped = run(&["check", "--json", "-"], &bytes);
-        assert!(
-            piped.text().contains(&format!("\"kind\": \"{kind}\"")),
-            "{}",
-            piped.text()
-        );
+        assert!(piped.text().contains(&format!("\"kind\": \"{kind}\"")), "{}", piped.text());
     }
-    for (bytes, row) in [
-        (&b"POL"[..], 2),
-        (b"BOK", 12),
-        (&[b"BOK", &[0; 20][..]].concat(), 12),
-        (b"POL\0\x03aaaa", 4),
-    ] {
+    for (bytes, row) in [(&b"POL"[..], 2), (b"BOK", 12), (&[b"BOK", &[0; 20][..]].concat(), 12), (b"POL\0\x03aaaa", 4)]
+    {
         let ran = run(&["page", "-"], bytes);
-        assert!(
-            ran.errors.contains(&format!("refused by number {row}: ")),
-            "{}",
-            ran.errors
-        );
+        assert!(ran.errors.contains(&format!("refused by number {row}: ")), "{}", ran.errors);
     }
 }
 
@@ -327,10 +266,7 @@ fn a_file_may_have_a_name_like_an_option() {
 #[test]
 fn names_must_be_as_many() {
     let f = files("names");
-    let ran = run(
-        &["after", "--names", &f.good, &f.policy, "render", "accepted"],
-        &[],
-    );
+    let ran = run(&["after", "--names", &f.good, &f.policy, "render", "accepted"], &[]);
     assert_eq!(ran.status, 0, "{}", ran.errors);
     assert!(ran.text().contains("midnight"), "{}", ran.text());
     let ran = run(&["page", "--key", "--names", &f.good, &f.book], &[]);
@@ -341,17 +277,10 @@ fn names_must_be_as_many() {
         ("variables more", &f.policy),
         ("events noon", &f.policy),
     ] {
-        let names = f.folder.file(
-            "names.txt",
-            format!("{more}\n{}", GOOD.replace("rule", "#")),
-        );
+        let names = f.folder.file("names.txt", format!("{more}\n{}", GOOD.replace("rule", "#")));
         let ran = run(&["check", "--names", &names, file], &[]);
         assert_eq!((ran.status, ran.text()), (2, ""), "{more}");
-        assert!(
-            ran.errors.contains(&names) && ran.errors.contains(file.as_str()),
-            "{}",
-            ran.errors
-        );
+        assert!(ran.errors.contains(&names) && ran.errors.contains(file.as_str()), "{}", ran.errors);
     }
     let ran = run(&["check", "--names", &f.policy, &f.book], &[]);
     assert_eq!(ran.status, 2);
@@ -361,16 +290,10 @@ fn names_must_be_as_many() {
 #[test]
 fn texts_with_different_names_are_compared_only_if_asked() {
     let f = files("renamed");
-    let renamed = f
-        .folder
-        .file("renamed.txt", GOOD.replace("render", "picture"));
+    let renamed = f.folder.file("renamed.txt", GOOD.replace("render", "picture"));
     let ran = run(&["compare", &f.good, &renamed], &[]);
     assert_eq!((ran.status, ran.text()), (2, ""));
-    assert!(
-        ran.errors.contains("render") && ran.errors.contains("picture"),
-        "{}",
-        ran.errors
-    );
+    assert!(ran.errors.contains("render") && ran.errors.contains("picture"), "{}", ran.errors);
     assert!(ran.errors.contains("--by-order"), "{}", ran.errors);
     status(&["compare", "--by-order", &f.good, &renamed], 0);
     let turned = GOOD.replace("drawing, render", "render, drawing");

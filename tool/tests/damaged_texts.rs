@@ -60,8 +60,7 @@ fn good_texts() -> Vec<String> {
     for number in 2_000_000..2_000_000 + GOOD {
         let (bytes, _) = policy_file(number);
         let mut random = Random::new(number, "good text");
-        let (Ok(policy), Ok(read)) = (Policy::decode(&bytes), reference::policy::read(&bytes))
-        else {
+        let (Ok(policy), Ok(read)) = (Policy::decode(&bytes), reference::policy::read(&bytes)) else {
             continue;
         };
         let names = draw_names(&policy.frame, read.variables, &mut random);
@@ -83,9 +82,7 @@ fn trouble(random: &mut Random) -> Vec<char> {
     match random.below(16) {
         0 => vec!['a'; *random.pick(&[64, 65, 5_000])],
         1 => vec!['9'; *random.pick(&[3, 10, 11, 200])],
-        2 => format!("\"{}\"", "é".repeat(*random.pick(&[0, 64, 65])))
-            .chars()
-            .collect(),
+        2 => format!("\"{}\"", "é".repeat(*random.pick(&[0, 64, 65]))).chars().collect(),
         3 => format!(" {} ", random.pick(&RESERVED)).chars().collect(),
         4 => format!("\"{}\"", random.pick(&QUOTED)).chars().collect(),
         _ => random.pick(&TROUBLE).chars().collect(),
@@ -178,35 +175,21 @@ fn is_harmless(letter: char) -> bool {
 
 fn check_mistake(mistake: &Mistake, text: &str) {
     let lines: Vec<&str> = text.split('\n').collect();
-    let line = lines
-        .get(mistake.line - 1)
-        .unwrap_or_else(|| panic!("{mistake:?} in\n{text}"));
+    let line = lines.get(mistake.line - 1).unwrap_or_else(|| panic!("{mistake:?} in\n{text}"));
     let letters = line.chars().count();
     let (column, length) = (mistake.column, mistake.length);
-    assert!(
-        column >= 1 && length >= 1 && column + length <= letters + 2,
-        "{mistake:?} in\n{text}"
-    );
+    assert!(column >= 1 && length >= 1 && column + length <= letters + 2, "{mistake:?} in\n{text}");
     let report = mistake.report("a file", text);
     let parts: Vec<&str> = report.split('\n').collect();
     let [head, shown, mark, ""] = parts[..] else {
         panic!("{report}");
     };
     let place = format!("a file:{}:{column}: ", mistake.line);
-    assert!(
-        head.starts_with(&place) && head.len() > place.len() + 10,
-        "{report}"
-    );
+    assert!(head.starts_with(&place) && head.len() > place.len() + 10, "{report}");
     let marks = mark.trim_start();
-    assert!(
-        marks.starts_with('^') && marks.chars().all(|letter| letter == '^'),
-        "{report}"
-    );
+    assert!(marks.starts_with('^') && marks.chars().all(|letter| letter == '^'), "{report}");
     assert!(report.chars().all(is_harmless), "{report:?}");
-    if line
-        .chars()
-        .all(|letter| letter == ' ' || letter.is_ascii_graphic())
-    {
+    if line.chars().all(|letter| letter == ' ' || letter.is_ascii_graphic()) {
         check_mark(mistake, line, shown, mark);
     }
 }
@@ -224,17 +207,13 @@ fn check_mark(mistake: &Mistake, line: &str, shown: &str, mark: &str) {
         assert_eq!(mark.len() - first, marks, "{shown}\n{mark}");
         assert_eq!(first, 3 + column, "{shown}\n{mark}");
     }
-    assert!(
-        shown.chars().count() < 130 && mark.len() < 130,
-        "{shown}\n{mark}"
-    );
+    assert!(shown.chars().count() < 130 && mark.len() < 130, "{shown}\n{mark}");
 }
 
 /// A text that is read can be written, and says the same then.
 fn check_text(text: &Text, input: &str) {
     let standard = print(&text.policy, &text.names, &text.notes);
-    let again = parse(&standard)
-        .unwrap_or_else(|mistake| panic!("{mistake:?} in\n{standard}\nof\n{input}"));
+    let again = parse(&standard).unwrap_or_else(|mistake| panic!("{mistake:?} in\n{standard}\nof\n{input}"));
     assert_eq!(again.policy, text.policy, "{input}");
     assert_eq!(again.names, text.names, "{input}");
     let harmless = |letter: char| is_harmless(letter) || letter.is_whitespace();
@@ -253,10 +232,7 @@ fn damaged_texts_are_read_or_have_one_mistake_with_its_place() {
         match read {
             Ok(read) => check_text(&read, &text),
             Err(mistake) => {
-                met.note(
-                    "something else expected",
-                    mistake.message.contains("expected"),
-                );
+                met.note("something else expected", mistake.message.contains("expected"));
                 met.note("no word at all", !mistake.message.contains("expected"));
                 check_mistake(&mistake, &text);
             }
@@ -269,9 +245,7 @@ fn damaged_texts_are_read_or_have_one_mistake_with_its_place() {
 fn texts_of_nothing_but_trouble_have_a_mistake() {
     for number in 0..5_000 {
         let mut random = Random::new(number, "trouble");
-        let text: String = (0..random.below(20))
-            .flat_map(|_| trouble(&mut random))
-            .collect();
+        let text: String = (0..random.below(20)).flat_map(|_| trouble(&mut random)).collect();
         check_mistake(&parse_soon(&text).expect_err("no field is declared"), &text);
     }
 }
@@ -281,17 +255,9 @@ fn message_on(bytes: &[u8], folder: &Folder) -> String {
     let name = folder.file("input", bytes);
     let begin = Instant::now();
     let ran = run(&["check", &name], &[]);
-    assert!(
-        begin.elapsed() < Duration::from_secs(10),
-        "{:?}",
-        begin.elapsed()
-    );
+    assert!(begin.elapsed() < Duration::from_secs(10), "{:?}", begin.elapsed());
     assert_eq!((ran.status, ran.text()), (2, ""));
-    assert!(
-        ran.errors.starts_with(&format!("{name}:")),
-        "{}",
-        ran.errors
-    );
+    assert!(ran.errors.starts_with(&format!("{name}:")), "{}", ran.errors);
     assert!(ran.errors.len() < 2_000, "{}", ran.errors);
     ran.errors
 }
@@ -299,12 +265,7 @@ fn message_on(bytes: &[u8], folder: &Folder) -> String {
 #[test]
 fn files_that_are_no_text_are_refused() {
     let folder = Folder::new("no-text");
-    for bytes in [
-        &b"field a = \xFF, b"[..],
-        b"\xC3",
-        b"\xED\xA0\x80",
-        b"field\0a = b, c",
-    ] {
+    for bytes in [&b"field a = \xFF, b"[..], b"\xC3", b"\xED\xA0\x80", b"field\0a = b, c"] {
         let message = message_on(bytes, &folder);
         assert!(message.contains("UTF-8"), "{message}");
     }
@@ -317,19 +278,7 @@ fn huge_files_are_refused_soon() {
     let folder = Folder::new("huge");
     let long = "field a = b, c\n".repeat(200_000);
     assert!(message_on(long.as_bytes(), &folder).contains("1048576 bytes"));
-    for word in [
-        "rule ",
-        "rule\n",
-        "#\n",
-        "\"",
-        ",",
-        "a",
-        "9",
-        "(",
-        "館 ",
-        "\n",
-        "events e\n",
-    ] {
+    for word in ["rule ", "rule\n", "#\n", "\"", ",", "a", "9", "(", "館 ", "\n", "events e\n"] {
         let text = word.repeat((1 << 20) / word.len());
         let message = message_on(text.as_bytes(), &folder);
         assert!(message.contains('^'), "{message}");
@@ -340,9 +289,5 @@ fn huge_files_are_refused_soon() {
     let name = folder.file("comments", comments);
     let begin = Instant::now();
     assert_eq!(run(&["print", &name], &[]).status, 0);
-    assert!(
-        begin.elapsed() < Duration::from_secs(10),
-        "{:?}",
-        begin.elapsed()
-    );
+    assert!(begin.elapsed() < Duration::from_secs(10), "{:?}", begin.elapsed());
 }

@@ -17,11 +17,7 @@ const FILES: u64 = 3_000;
 /// The number of a rule of the policy, from 0.
 fn number(policy: &policy::Policy, rule: &Rule) -> usize {
     let is_same = |other: &Rule| std::ptr::eq(other, rule);
-    policy
-        .rules
-        .iter()
-        .position(is_same)
-        .expect("a rule of the policy")
+    policy.rules.iter().position(is_same).expect("a rule of the policy")
 }
 
 /// A possible history, and the situation after it.
@@ -44,15 +40,9 @@ fn deciding(policy: &policy::Policy, situation: &Situation, request: usize) -> D
     let mut deciding = Deciding::default();
     for valuation in situation {
         let applying = steps.applying(request, valuation);
-        deciding.at_once |= applying
-            .iter()
-            .any(|rule| rule.accepts != applying[0].accepts);
+        deciding.at_once |= applying.iter().any(|rule| rule.accepts != applying[0].accepts);
         for rule in applying {
-            let rules = if rule.accepts {
-                &mut deciding.accepting
-            } else {
-                &mut deciding.rejecting
-            };
+            let rules = if rule.accepts { &mut deciding.accepting } else { &mut deciding.rejecting };
             rules.insert(number(policy, rule));
         }
     }
@@ -79,10 +69,7 @@ fn deciding_rules_are_those_that_apply() {
             met.note("several rules", expected.accepting.len() > 1);
             met.note("rules that differ", expected.at_once);
             let conflict = !expected.accepting.is_empty() && !expected.rejecting.is_empty();
-            met.note(
-                "rules that differ, but not at once",
-                conflict && !expected.at_once,
-            );
+            met.note("rules that differ, but not at once", conflict && !expected.at_once);
             assert_eq!(found, expected, "{input}: {history:?}, request {request}");
         }
         met.note("several valuations", situation.len() > 1);
@@ -136,12 +123,7 @@ fn idle_rules_never_fit_or_never_apply() {
                 (true, true) => Idle::Others,
             };
             met.note(&format!("{expected:?}"), true);
-            assert_eq!(
-                explain::idle(&own, place),
-                expected,
-                "{input}: rule {}",
-                place + 1
-            );
+            assert_eq!(explain::idle(&own, place), expected, "{input}: rule {}", place + 1);
         }
     }
     met.each_at_least(20);

@@ -28,32 +28,18 @@ fn order(count: usize, random: &mut Random) -> Vec<usize> {
 fn reordered(policy: &Policy, names: &Names, random: &mut Random) -> (Policy, Names) {
     let (mut policy, mut names) = (policy.clone(), names.clone());
     let events = order(names.events.len(), random);
-    policy.events = events
-        .iter()
-        .map(|&event| policy.events[event].clone())
-        .collect();
-    names.events = events
-        .iter()
-        .map(|&event| names.events[event].clone())
-        .collect();
+    policy.events = events.iter().map(|&event| policy.events[event].clone()).collect();
+    names.events = events.iter().map(|&event| names.events[event].clone()).collect();
     for (place, field) in names.fields.iter_mut().enumerate() {
         let values = order(field.values.len(), random);
-        field.values = values
-            .iter()
-            .map(|&value| field.values[value].clone())
-            .collect();
+        field.values = values.iter().map(|&value| field.values[value].clone()).collect();
         for rule in &mut policy.rules {
-            let bits = (0..)
-                .zip(&values)
-                .map(|(bit, value)| (rule.masks[place] >> value & 1) << bit);
+            let bits = (0..).zip(&values).map(|(bit, value)| (rule.masks[place] >> value & 1) << bit);
             rule.masks[place] = bits.sum();
         }
     }
     let fields = order(names.fields.len(), random);
-    names.fields = fields
-        .iter()
-        .map(|&field| names.fields[field].clone())
-        .collect();
+    names.fields = fields.iter().map(|&field| names.fields[field].clone()).collect();
     for rule in &mut policy.rules {
         rule.masks = fields.iter().map(|&field| rule.masks[field]).collect();
     }
@@ -69,11 +55,7 @@ fn check(files: [&str; 2], books: [&Book; 2], input: &str) -> bool {
     assert_eq!(ran.status, back.status, "{input}");
     let (found, back) = (read(ran.text()), read(back.text()));
     let Comparison::Differ(history) = compare_books(books[0], books[1]) else {
-        assert_eq!(
-            (ran.status, found.get("same")),
-            (0, &Value::Bool(true)),
-            "{input}"
-        );
+        assert_eq!((ran.status, found.get("same")), (0, &Value::Bool(true)), "{input}");
         return true;
     };
     let expected: Vec<usize> = history.iter().map(|&code| code.into()).collect();
@@ -97,14 +79,10 @@ fn the_order_of_declarations_does_not_matter() {
         let (Ok(first), Ok(second)) = (build(&one), build(&other)) else {
             continue;
         };
-        let policies =
-            [one, other].map(|bytes| Policy::decode(&bytes).expect("a policy with a book"));
+        let policies = [one, other].map(|bytes| Policy::decode(&bytes).expect("a policy with a book"));
         let [one, other] = policies;
         let names = draw_names(&one.frame, one.starts.len(), &mut random);
-        let names_of_other = Names {
-            variables: names.variables.clone(),
-            ..names.clone()
-        };
+        let names_of_other = Names { variables: names.variables.clone(), ..names.clone() };
         let (other, other_names) = reordered(&other, &names_of_other, &mut random);
         met.note("another order", other_names.fields != names.fields);
         let one = folder.file(&format!("{number}-one"), print(&one, &names, &[]));

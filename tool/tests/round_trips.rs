@@ -18,8 +18,7 @@ const FILES: u64 = 12_000;
 const ODD_FILES: u64 = 6_000;
 
 fn parsed(text: &str, input: &str) -> Text {
-    parse(text)
-        .unwrap_or_else(|mistake| panic!("{input}:\n{}\n{text}", mistake.report(input, text)))
+    parse(text).unwrap_or_else(|mistake| panic!("{input}:\n{}\n{text}", mistake.report(input, text)))
 }
 
 fn printed(text: &Text) -> String {
@@ -36,9 +35,7 @@ fn check_round_trip(bytes: &[u8], names: &Names, input: &str) {
     assert_eq!(again.policy.encode(), bytes, "{input}\n{text}");
     assert_eq!(again.names, *names, "{input}\n{text}");
     assert_eq!(printed(&again), text, "{input}");
-    let rules = (1..)
-        .zip(text.lines())
-        .filter(|(_, line)| line.starts_with("rule "));
+    let rules = (1..).zip(text.lines()).filter(|(_, line)| line.starts_with("rule "));
     let rule_lines: Vec<usize> = rules.map(|(number, _)| number).collect();
     assert_eq!(again.rule_lines, rule_lines, "{input}\n{text}");
 }
@@ -62,20 +59,13 @@ fn every_policy_that_is_read_has_a_text() {
         let variables = policy.starts.len();
         met.note("version 1 with rules", bytes[4] == 1 && bytes[8] > 0);
         met.note("version 2 with rules", bytes[4] == 2 && bytes[8] > 0);
-        met.note(
-            "version 2 without variables",
-            bytes[4] == 2 && variables == 0,
-        );
+        met.note("version 2 without variables", bytes[4] == 2 && variables == 0);
         met.note("without rules", bytes[8] == 0);
         met.note("32 rules", bytes[8] == 32);
         met.note("64 requests", policy.frame.requests() == 64);
         check_round_trip(&bytes, &Names::made_up(&policy.frame, variables), &input);
         let mut random = Random::new(number, "names");
-        check_round_trip(
-            &bytes,
-            &draw_names(&policy.frame, variables, &mut random),
-            &input,
-        );
+        check_round_trip(&bytes, &draw_names(&policy.frame, variables, &mut random), &input);
     }
     met.each_at_least(30);
 }
@@ -89,11 +79,7 @@ fn names_stand_in_quotes_where_they_must() {
         met.note("plain", plain);
         met.note("in quotes", !plain);
         met.note("64 letters", name.chars().count() == 64);
-        let expected = if plain {
-            name.clone()
-        } else {
-            format!("\"{name}\"")
-        };
+        let expected = if plain { name.clone() } else { format!("\"{name}\"") };
         assert_eq!(quoted(&name), expected);
     }
     met.each_at_least(1_000);
@@ -109,11 +95,7 @@ fn check_odd(odd: &Odd, bytes: &[u8], names: &Names, input: &str) {
     let standard = printed(&text);
     for comment in &odd.comments {
         let is_kept = |line: &str| line.trim_end().ends_with(&format!("# {comment}"));
-        assert!(
-            comment.is_empty() || standard.lines().any(is_kept),
-            "{input}: {comment}\n{}",
-            odd.text
-        );
+        assert!(comment.is_empty() || standard.lines().any(is_kept), "{input}: {comment}\n{}", odd.text);
     }
     let again = parsed(&standard, input);
     assert_eq!(again.policy, text.policy, "{input}\n{standard}");
@@ -152,13 +134,8 @@ fn histories_in_words_are_read_back() {
     let mut met = Met::default();
     for number in 0..20_000 {
         let mut random = Random::new(number, "history");
-        let counts = random
-            .pick(&[vec![2], vec![3, 2], vec![2, 1, 2], vec![16]])
-            .clone();
-        let frame = Frame {
-            events: random.below(4),
-            counts,
-        };
+        let counts = random.pick(&[vec![2], vec![3, 2], vec![2, 1, 2], vec![16]]).clone();
+        let frame = Frame { events: random.below(4), counts };
         let names = draw_names(&frame, 0, &mut random);
         let mut history = Vec::new();
         for _ in 0..random.below(6) {
@@ -169,11 +146,7 @@ fn histories_in_words_are_read_back() {
         met.note("twice", words.contains(" twice"));
         met.note("times", words.contains(" times"));
         met.note("a name of digits alone", words.contains("\"7\""));
-        assert_eq!(
-            parse_steps(&names, std::slice::from_ref(&words)),
-            Ok(history),
-            "{words}"
-        );
+        assert_eq!(parse_steps(&names, std::slice::from_ref(&words)), Ok(history), "{words}");
     }
     met.each_at_least(100);
 }
@@ -219,8 +192,5 @@ rule      a1  when v0 >= 2  reject
 
 on        e0  v0 to 0
 ";
-    assert_eq!(
-        print(&policy, &Names::made_up(&policy.frame, 1), &[]),
-        expected
-    );
+    assert_eq!(print(&policy, &Names::made_up(&policy.frame, 1), &[]), expected);
 }

@@ -23,26 +23,17 @@ fn requests(line: &str, subject: &Subject, book: &Book) -> BTreeSet<usize> {
     }
     let declared = Policy {
         version: 1,
-        frame: Frame {
-            events: book.frame.events,
-            counts: book.frame.counts.clone(),
-        },
+        frame: Frame { events: book.frame.events, counts: book.frame.counts.clone() },
         starts: Vec::new(),
         rules: Vec::new(),
         events: vec![Vec::new(); book.frame.events],
     };
-    let names = Names {
-        variables: Vec::new(),
-        ..subject.names.clone()
-    };
+    let names = Names { variables: Vec::new(), ..subject.names.clone() };
     let text = format!("{}rule {line} accept\n", print(&declared, &names, &[]));
     let masks = parse(&text).expect(line).policy.rules[0].masks.clone();
     let is_meant = |request: &usize| {
         let values = book.frame.values_of(*request);
-        masks
-            .iter()
-            .zip(values)
-            .all(|(mask, value)| mask >> value & 1 == 1)
+        masks.iter().zip(values).all(|(mask, value)| mask >> value & 1 == 1)
     };
     all.filter(is_meant).collect()
 }
@@ -78,12 +69,7 @@ fn request_leads(book: &Book, state: usize, request: usize) -> String {
 /// Checks the words on a state: each request in one line below its outcome, with
 /// where it leads, and where events lead.
 fn check_words(words: &str, subject: &Subject, book: &Book, state: usize) {
-    let titles = [
-        "  unanswered:",
-        "  accepted:",
-        "  rejected:",
-        "  accepted or rejected (conflict):",
-    ];
+    let titles = ["  unanswered:", "  accepted:", "  rejected:", "  accepted or rejected (conflict):"];
     let mut said = vec![BTreeSet::new(); 4];
     let mut events = Vec::new();
     let mut title = None;
@@ -93,10 +79,7 @@ fn check_words(words: &str, subject: &Subject, book: &Book, state: usize) {
             (Some((name, to)), None) => events.push((name.to_string(), Some(to.to_string()))),
             (Some((who, to)), Some(outcome)) => {
                 for request in requests(who, subject, book) {
-                    assert!(
-                        to.starts_with(&request_leads(book, state, request)),
-                        "{words}"
-                    );
+                    assert!(to.starts_with(&request_leads(book, state, request)), "{words}");
                     assert!(said[outcome].insert(request), "{}:\n{words}", subject.input);
                 }
             }
@@ -117,10 +100,7 @@ fn words_say_every_request_once() {
     let folder = Folder::new("words");
     for (number, subject, book) in with_books(4_000..4_400, &folder) {
         let steps = walk(&book, &mut Random::new(number, "walk"));
-        let codes: Vec<String> = steps
-            .iter()
-            .map(|(code, _)| format!("code {code}"))
-            .collect();
+        let codes: Vec<String> = steps.iter().map(|(code, _)| format!("code {code}")).collect();
         let ran = run(&["after", &subject.file, &codes.join(", ")], &[]);
         assert_eq!(ran.status, 0, "{}: {}", subject.input, ran.errors);
         let state = steps.last().map_or(1, |&(_, state)| state);

@@ -73,10 +73,7 @@ fn answers_go_through_pipes() {
 #[test]
 fn a_named_file_has_what_standard_output_would_have() {
     let folder = folder("named");
-    for (words, status) in CALLS
-        .into_iter()
-        .filter(|(words, _)| words[0].starts_with(|first| first != '-'))
-    {
+    for (words, status) in CALLS.into_iter().filter(|(words, _)| words[0].starts_with(|first| first != '-')) {
         if words[0] == "help" {
             continue;
         }
@@ -85,22 +82,9 @@ fn a_named_file_has_what_standard_output_would_have() {
         for option in [&["-o", "out"][..], &["--output", "out"], &["--output=out"]] {
             let words = [words, option].concat();
             let ran = run_into(&words, &folder, Stdio::piped());
-            assert_eq!(
-                (ran.status, ran.output.len()),
-                (status, 0),
-                "{words:?}: {}",
-                ran.errors
-            );
-            assert_eq!(
-                fs::read(folder.name("out")).expect("the file"),
-                wanted.output,
-                "{words:?}"
-            );
-            assert_eq!(
-                folder.list(),
-                ["other.txt", "out", "rules.txt"],
-                "{words:?}"
-            );
+            assert_eq!((ran.status, ran.output.len()), (status, 0), "{words:?}: {}", ran.errors);
+            assert_eq!(fs::read(folder.name("out")).expect("the file"), wanted.output, "{words:?}");
+            assert_eq!(folder.list(), ["other.txt", "out", "rules.txt"], "{words:?}");
             fs::remove_file(folder.name("out")).expect("the file");
         }
     }
@@ -109,19 +93,14 @@ fn a_named_file_has_what_standard_output_would_have() {
 #[test]
 fn a_file_is_replaced_in_its_place() {
     let folder = folder("replaced");
-    let out = folder.file(
-        "out",
-        "as before, and longer than a book of so few states will ever be",
-    );
+    let out = folder.file("out", "as before, and longer than a book of so few states will ever be");
     fs::set_permissions(&out, fs::Permissions::from_mode(0o640)).expect("permissions");
     symlink("out", folder.name("link")).expect("a link");
     let ran = run_into(&["build", "-", "-o", "link"], &folder, Stdio::piped());
     assert_eq!(ran.status, 0, "{}", ran.errors);
     let book = run(&["build", "-"], RULES.as_bytes()).output;
     assert_eq!(fs::read(&out).expect("the file"), book);
-    assert!(fs::symlink_metadata(folder.name("link"))
-        .expect("the link")
-        .is_symlink());
+    assert!(fs::symlink_metadata(folder.name("link")).expect("the link").is_symlink());
     let mode = fs::metadata(&out).expect("the file").permissions().mode();
     assert_eq!(mode & 0o777, 0o640);
 }
@@ -140,47 +119,22 @@ fn an_input_is_not_written_over() {
     let standard = run(&["print", "-"], RULES.as_bytes()).output;
     let words = ["print", "rules.txt", "-o", "rules.txt"];
     assert_eq!(run_into(&words, &folder, Stdio::piped()).status, 0);
-    assert_eq!(
-        fs::read(folder.name("rules.txt")).expect("the rules"),
-        standard
-    );
+    assert_eq!(fs::read(folder.name("rules.txt")).expect("the rules"), standard);
 }
 
 #[test]
 fn where_a_file_cannot_be_written_nothing_is_left() {
     let folder = folder("unwritten");
     let before = folder.list();
-    for out in [
-        "nowhere/out",
-        "rules.txt/out",
-        "/dev/full",
-        ".",
-        "",
-        "rules.txt/",
-    ] {
-        for words in [
-            ["build", "rules.txt"],
-            ["check", "rules.txt"],
-            ["page", "rules.txt"],
-        ] {
-            let ran = run_into(
-                &[&words[..], &["-o", out]].concat(),
-                &folder,
-                Stdio::piped(),
-            );
+    for out in ["nowhere/out", "rules.txt/out", "/dev/full", ".", "", "rules.txt/"] {
+        for words in [["build", "rules.txt"], ["check", "rules.txt"], ["page", "rules.txt"]] {
+            let ran = run_into(&[&words[..], &["-o", out]].concat(), &folder, Stdio::piped());
             assert_eq!((ran.status, ran.text()), (2, ""), "{words:?} {out}");
-            assert!(
-                ran.errors.starts_with(&format!("policybook: {out}: ")),
-                "{}",
-                ran.errors
-            );
+            assert!(ran.errors.starts_with(&format!("policybook: {out}: ")), "{}", ran.errors);
             assert_eq!(folder.list(), before, "{words:?} {out}");
         }
     }
-    assert_eq!(
-        fs::read(folder.name("rules.txt")).expect("the rules"),
-        RULES.as_bytes()
-    );
+    assert_eq!(fs::read(folder.name("rules.txt")).expect("the rules"), RULES.as_bytes());
 }
 
 /// What `compile` says of a policy that has no book is true.
@@ -190,18 +144,9 @@ fn what_is_not_written_is_not_said_to_be() {
     let large = "field a = b, c\nvariables v, w\nrule any when v < 60 and w < 60 accept\n";
     folder.file("large.txt", large);
     for (out, status) in [("out", 0), ("nowhere/out", 2), ("/dev/full", 2)] {
-        let ran = run_into(
-            &["compile", "large.txt", "-o", out],
-            &folder,
-            Stdio::piped(),
-        );
+        let ran = run_into(&["compile", "large.txt", "-o", out], &folder, Stdio::piped());
         assert_eq!(ran.status, status, "{}", ran.errors);
-        assert_eq!(
-            ran.errors.contains("is written"),
-            status == 0,
-            "{}",
-            ran.errors
-        );
+        assert_eq!(ran.errors.contains("is written"), status == 0, "{}", ran.errors);
     }
 }
 
@@ -214,16 +159,9 @@ fn a_file_that_would_not_be_whole_does_not_appear() {
         let line = format!("trap '' XFSZ; ulimit -f 1; \"$TOOL\" draw rules.txt -o {out}");
         let ran = shell(&line, &folder);
         assert_eq!((ran.status, ran.text()), (2, ""), "{}", ran.errors);
-        assert!(
-            ran.errors.starts_with(&format!("policybook: {out}: ")),
-            "{}",
-            ran.errors
-        );
+        assert!(ran.errors.starts_with(&format!("policybook: {out}: ")), "{}", ran.errors);
         assert_eq!(folder.list(), ["other.txt", "out", "rules.txt"]);
-        assert_eq!(
-            fs::read(folder.name("out")).expect("the file"),
-            b"as before"
-        );
+        assert_eq!(fs::read(folder.name("out")).expect("the file"), b"as before");
     }
 }
 
@@ -232,49 +170,31 @@ fn a_refused_input_leaves_the_file_as_it_was() {
     let folder = folder("refused");
     let out = folder.file("out", "as before");
     let bad = folder.file("bad.policy", b"POL\0\x01\0\x01\0\0\x02\0");
-    for command in [
-        "check", "build", "compile", "print", "page", "draw", "after",
-    ] {
+    for command in ["check", "build", "compile", "print", "page", "draw", "after"] {
         let ran = run_into(&[command, &bad, "-o", "out"], &folder, Stdio::piped());
         assert_eq!(ran.status, 2, "{command}");
         assert!(ran.errors.contains("number 6"), "{command}: {}", ran.errors);
         assert_eq!(fs::read(&out).expect("the file"), b"as before", "{command}");
     }
-    assert_eq!(
-        folder.list(),
-        ["bad.policy", "other.txt", "out", "rules.txt"]
-    );
+    assert_eq!(folder.list(), ["bad.policy", "other.txt", "out", "rules.txt"]);
 }
 
 #[test]
 fn standard_output_that_takes_nothing_is_told() {
     let folder = folder("full");
     for (words, _) in CALLS {
-        let full = File::options()
-            .write(true)
-            .open("/dev/full")
-            .expect("the device");
+        let full = File::options().write(true).open("/dev/full").expect("the device");
         let (reader, writer) = std::io::pipe().expect("a pipe");
         drop(reader);
         for output in [Stdio::from(full), Stdio::from(writer)] {
             let ran = run_into(words, &folder, output);
             assert_eq!(ran.status, 2, "{words:?}");
-            assert!(
-                ran.errors
-                    .contains("policybook: standard output cannot be written: "),
-                "{}",
-                ran.errors
-            );
+            assert!(ran.errors.contains("policybook: standard output cannot be written: "), "{}", ran.errors);
         }
         let line = format!("\"$TOOL\" {} < rules.txt >&-", words.join(" "));
         let ran = shell(&line, &folder);
         assert_eq!(ran.status, 2, "{words:?}");
-        assert!(
-            ran.errors
-                .contains("policybook: standard output cannot be written: "),
-            "{}",
-            ran.errors
-        );
+        assert!(ran.errors.contains("policybook: standard output cannot be written: "), "{}", ran.errors);
     }
 }
 
@@ -295,18 +215,9 @@ fn standard_error_that_takes_nothing_changes_no_answer() {
             let line = format!("\"$TOOL\" {} < rules.txt {closed}", words.join(" "));
             let ran = shell(&line, &folder);
             assert_eq!(ran.status, status, "{line}");
-            assert_eq!(
-                ran.output,
-                run_into(words, &folder, Stdio::piped()).output,
-                "{line}"
-            );
+            assert_eq!(ran.output, run_into(words, &folder, Stdio::piped()).output, "{line}");
         }
-        for words in [
-            "",
-            "check nowhere",
-            "check --frobnicate",
-            "after rules.txt render rejected",
-        ] {
+        for words in ["", "check nowhere", "check --frobnicate", "after rules.txt render rejected"] {
             let ran = shell(&format!("\"$TOOL\" {words} {closed}"), &folder);
             assert_eq!((ran.status, ran.text()), (2, ""), "{words}");
         }
@@ -340,17 +251,8 @@ fn bytes_do_not_go_to_a_terminal() {
     for command in ["build", "compile"] {
         let ran = at_terminal(&format!("{command} rules.txt"));
         assert_eq!(ran.status, 2);
-        assert!(
-            ran.text()
-                .contains(&format!("policybook {command} -o FILE")),
-            "{}",
-            ran.text()
-        );
-        assert!(
-            !ran.text().contains("BOK") && !ran.text().contains("POL"),
-            "{}",
-            ran.text()
-        );
+        assert!(ran.text().contains(&format!("policybook {command} -o FILE")), "{}", ran.text());
+        assert!(!ran.text().contains("BOK") && !ran.text().contains("POL"), "{}", ran.text());
         let ran = at_terminal(&format!("{command} rules.txt -o out"));
         assert_eq!((ran.status, ran.text()), (0, ""));
     }

@@ -31,59 +31,32 @@ fn check_after(found: &Value, subject: &Subject, book: &Book, steps: &[(u8, usiz
     assert_eq!(found.get("states").number(), book.states(), "{input}");
     for (found, &(code, state)) in found.get("steps").list().iter().zip(steps) {
         assert_eq!(found.get("code").number(), usize::from(code), "{input}");
-        assert_eq!(
-            found.get("name").text(),
-            subject.step(book, usize::from(code)),
-            "{input}"
-        );
+        assert_eq!(found.get("name").text(), subject.step(book, usize::from(code)), "{input}");
         assert_eq!(found.get("state").number(), state, "{input}");
     }
     assert_eq!(found.get("steps").list().len(), steps.len(), "{input}");
-    assert_eq!(
-        found.get("requests").list().len(),
-        book.frame.requests(),
-        "{input}"
-    );
+    assert_eq!(found.get("requests").list().len(), book.frame.requests(), "{input}");
     for (request, found) in found.get("requests").list().iter().enumerate() {
         let outcome = OUTCOMES[outcome_in(book, state, request)];
-        assert_eq!(
-            found.get("request").get("number").number(),
-            request,
-            "{input}"
-        );
-        assert_eq!(
-            found.get("request").get("name").text(),
-            subject.request(book, request),
-            "{input}"
-        );
+        assert_eq!(found.get("request").get("number").number(), request, "{input}");
+        assert_eq!(found.get("request").get("name").text(), subject.request(book, request), "{input}");
         assert_eq!(found.get("outcome").text(), outcome, "{input}");
-        let codes = [
-            book.frame.accept_code(request),
-            book.frame.reject_code(request),
-        ];
+        let codes = [book.frame.accept_code(request), book.frame.reject_code(request)];
         for (name, code) in ["accepted_to", "rejected_to"].iter().zip(codes) {
             let to = Some(book.entry(state, code)).filter(|&to| to != 0);
             assert_eq!(found.get(name).maybe(Value::number), to, "{input}");
         }
     }
-    let states: Vec<usize> = (0..book.frame.events)
-        .map(|event| book.entry(state, event))
-        .collect();
+    let states: Vec<usize> = (0..book.frame.events).map(|event| book.entry(state, event)).collect();
     assert_eq!(found.get("events").each("state"), states, "{input}");
 }
 
 /// Asks what is possible after these steps, said by their codes.
 fn ask_after(subject: &Subject, steps: &[(u8, usize)], further: Option<usize>) -> Ran {
     let codes = steps.iter().map(|&(code, _)| usize::from(code));
-    let words: Vec<String> = codes
-        .chain(further)
-        .map(|code| format!("code {code}"))
-        .collect();
+    let words: Vec<String> = codes.chain(further).map(|code| format!("code {code}")).collect();
     let words: Vec<&str> = words.iter().map(String::as_str).collect();
-    run(
-        &[&["after", "--json", &subject.file][..], &words].concat(),
-        &[],
-    )
+    run(&[&["after", "--json", &subject.file][..], &words].concat(), &[])
 }
 
 #[test]
@@ -96,9 +69,7 @@ fn after_is_what_the_reference_walks_to() {
         let ran = ask_after(&subject, &steps, None);
         assert_eq!(ran.status, 0, "{input}: {}", ran.errors);
         check_after(&read(ran.text()), &subject, &book, &steps);
-        let named = steps
-            .iter()
-            .map(|&(code, _)| subject.step(&book, code.into()));
+        let named = steps.iter().map(|&(code, _)| subject.step(&book, code.into()));
         let named: Vec<String> = named.collect();
         let by_names = run(&["after", "--json", &subject.file, &named.join(", ")], &[]);
         assert_eq!(by_names.text(), ran.text(), "{input}: {}", by_names.errors);
@@ -132,39 +103,10 @@ fn steps_are_said_in_several_ways() {
         &["code", "1", "code", "1", "code", "0", "code", "7"][..],
         &["code 1, code 1, code 0, code 7"],
         &["code 1 twice", "noon", "code 7"],
-        &[
-            "late reader",
-            "copy",
-            "accepted",
-            "twice",
-            "noon",
-            "7",
-            "lend",
-            "accepted",
-        ],
-        &[
-            "late reader",
-            "copy",
-            "accepted,",
-            "late reader",
-            "copy",
-            "accept",
-            "noon",
-            "code",
-            "7",
-        ],
+        &["late reader", "copy", "accepted", "twice", "noon", "7", "lend", "accepted"],
+        &["late reader", "copy", "accepted,", "late reader", "copy", "accept", "noon", "code", "7"],
         &["\"late reader\" copy accepted 2 times, noon, \"7\" lend accepted"],
-        &[
-            "\"late reader\",",
-            "copy",
-            "accepted",
-            "2",
-            "times",
-            "noon,",
-            "\"7\"",
-            "lend",
-            "accepted",
-        ],
+        &["\"late reader\",", "copy", "accepted", "2", "times", "noon,", "\"7\"", "lend", "accepted"],
     ] {
         assert_eq!(answer(words), [1, 1, 0, 7], "{words:?}");
     }
@@ -173,19 +115,9 @@ fn steps_are_said_in_several_ways() {
 /// Checks the answer to a question that is not refused.
 fn check_way(ran: &Ran, subject: &Subject, asked: Question, expected: &Option<History>) {
     let (input, found) = (&subject.input, read(ran.text()));
-    let codes = |history: &Value| {
-        history
-            .each("code")
-            .iter()
-            .map(|&code| code as u8)
-            .collect()
-    };
+    let codes = |history: &Value| history.each("code").iter().map(|&code| code as u8).collect();
     assert_eq!(found.get("history").maybe(codes), *expected, "{input}");
-    assert_eq!(
-        found.get("outcome").text(),
-        OUTCOMES[asked.outcome],
-        "{input}"
-    );
+    assert_eq!(found.get("outcome").text(), OUTCOMES[asked.outcome], "{input}");
     let request = found.get("request").get("number").number();
     assert_eq!(request, asked.request, "{input}");
     assert_eq!(ran.status, i32::from(expected.is_none()), "{input}");
@@ -195,11 +127,7 @@ fn check_way(ran: &Ran, subject: &Subject, asked: Question, expected: &Option<Hi
 fn check_said(subject: &Subject, request: &str, outcome: &str, history: &[u8]) {
     let ran = run(&["way", &subject.file, request, outcome], &[]);
     let count = history.len();
-    let steps = if count == 1 {
-        " 1 step: ".to_string()
-    } else {
-        format!(" {count} steps: ")
-    };
+    let steps = if count == 1 { " 1 step: ".to_string() } else { format!(" {count} steps: ") };
     let (_, said) = ran.text().split_once(&steps).expect("the steps");
     let after = run(&["after", "--json", &subject.file, said.trim_end()], &[]);
     assert_eq!(after.status, 0, "{}: {said}{}", subject.input, after.errors);
@@ -216,10 +144,7 @@ fn ways_are_the_reference_ways() {
         let asked = question(number, &book.to_bytes());
         let expected = way(&book, asked.request, asked.outcome);
         let (request, outcome) = match expected.is_ok() && number % 2 == 0 {
-            true => (
-                subject.request(&book, asked.request),
-                OUTCOMES[asked.outcome].to_string(),
-            ),
+            true => (subject.request(&book, asked.request), OUTCOMES[asked.outcome].to_string()),
             false => (asked.request.to_string(), asked.outcome.to_string()),
         };
         let ran = run(&["way", "--json", &subject.file, &request, &outcome], &[]);
@@ -255,10 +180,7 @@ fn pages_are_the_reference_pages() {
         for request in &requests {
             let name = subject.request(&book, *request);
             let line = format!("column {:>2}  {name}", 9 + request);
-            assert!(
-                key.lines().any(|other| other == line),
-                "{input}: {line}\n{key}"
-            );
+            assert!(key.lines().any(|other| other == line), "{input}: {line}\n{key}");
         }
         let found = read(run(&["page", "--json", &subject.file], &[]).text());
         let lines = found.get("page").list().iter().map(Value::text);
@@ -273,12 +195,7 @@ fn built_and_compiled_bytes_are_those_of_the_reference() {
     let mut met = Met::default();
     for (_, subject, book) in subjects(&folder) {
         let built = run(&["build", &subject.file], &[]);
-        assert_eq!(
-            (built.status, built.output),
-            (0, book.to_bytes()),
-            "{}",
-            subject.input
-        );
+        assert_eq!((built.status, built.output), (0, book.to_bytes()), "{}", subject.input);
         for kind in ["text", "policy", "book"] {
             met.note(kind, subject.kind == kind);
         }
@@ -290,10 +207,7 @@ fn built_and_compiled_bytes_are_those_of_the_reference() {
         assert_eq!(compiled.output, subject.bytes, "{}", subject.input);
         let printed = run(&["print", "--names", &subject.file, "-"], &subject.bytes);
         match subject.kind {
-            "text" => assert_eq!(
-                printed.output,
-                std::fs::read(&subject.file).expect("the text")
-            ),
+            "text" => assert_eq!(printed.output, std::fs::read(&subject.file).expect("the text")),
             _ => assert_eq!(printed.status, 2, "{}", subject.input),
         }
     }

@@ -33,12 +33,9 @@ pub fn after(arguments: &Arguments) -> Result<Answer, Failure> {
 
 /// The state that the words `state 14` name, unless `state` is a name.
 fn state_asked(subject: &Subject, words: &[String]) -> Option<usize> {
-    let names = &subject.names;
-    let [word, number] = words else { return None };
-    let is_name = names.events.iter().chain(names.fields.iter().flat_map(|field| &field.values)).any(|name| name == word);
-    match word == "state" && !is_name {
-        true => number.parse().ok(),
-        false => None,
+    match words {
+        [word, number] if word == "state" && !subject.names.has(word) => number.parse().ok(),
+        _ => None,
     }
 }
 
@@ -46,11 +43,16 @@ fn state_asked(subject: &Subject, words: &[String]) -> Option<usize> {
 fn history_to(subject: &Subject, state: usize) -> Result<Vec<u8>, Failure> {
     let states = subject.book.states();
     if state == 0 || state > states {
-        return Err(Failure::refused(&[&subject.document.name], 16, format!("the state is {state}; there are 1 to {states}")));
+        return Err(Failure::refused(
+            &[&subject.document.name],
+            16,
+            format!("the state is {state}; there are 1 to {states}"),
+        ));
     }
-    subject.book.history_to(state).ok_or_else(|| {
-        Failure::of_use(format!("{}: no history leads to state {state}", subject.document.name))
-    })
+    subject
+        .book
+        .history_to(state)
+        .ok_or_else(|| Failure::of_use(format!("{}: no history leads to state {state}", subject.document.name)))
 }
 
 /// The state after each step.
@@ -63,7 +65,9 @@ pub fn walk(subject: &Subject, steps: &[u8]) -> Result<Vec<usize>, Failure> {
         state = book.next(state, code).ok_or_else(|| {
             let there = match book.frame().step(code) {
                 Step::Event(_) => String::new(),
-                Step::Decided { request, .. } => format!("; there {} {}", names.request(request), book.outcome(state, request).words()),
+                Step::Decided { request, .. } => {
+                    format!("; there {} {}", names.request(request), book.outcome(state, request).words())
+                }
             };
             let (step, when) = (names.step(code), after_words(names, &steps[..number]));
             let place = format!("step {}, {step}, is not possible {when}{there}", number + 1);
@@ -124,7 +128,9 @@ impl Page<'_> {
                 lines.push(format!("  {title}:"));
             }
             lines.extend(own.map(|(_, [who, to, by])| {
-                format!("    {who:<first$}  {to:<second$}  {by}", first = widths[0], second = widths[1]).trim_end().to_string()
+                format!("    {who:<first$}  {to:<second$}  {by}", first = widths[0], second = widths[1])
+                    .trim_end()
+                    .to_string()
             }));
         }
         lines.extend(self.event_lines());
@@ -155,7 +161,9 @@ impl Page<'_> {
 
     fn where_to(&self, fate: &Fate) -> String {
         match (fate.accepted, fate.rejected) {
-            (Some(accepted), Some(rejected)) => format!("accepted {}, rejected {}", self.to_state(accepted), self.to_state(rejected)),
+            (Some(accepted), Some(rejected)) => {
+                format!("accepted {}, rejected {}", self.to_state(accepted), self.to_state(rejected))
+            }
             (Some(to), None) | (None, Some(to)) => self.to_state(to),
             (None, None) => String::new(),
         }
@@ -199,7 +207,11 @@ fn json_of(subject: &Subject, steps: &[u8], states: &[usize], state: usize) -> J
         ])
     };
     let event = |event: usize| {
-        Json::Object(vec![("event", event.into()), ("name", names.event(event).into()), ("state", book.next(state, event).into())])
+        Json::Object(vec![
+            ("event", event.into()),
+            ("name", names.event(event).into()),
+            ("state", book.next(state, event).into()),
+        ])
     };
     Json::Object(vec![
         ("file", subject.document.name.as_str().into()),

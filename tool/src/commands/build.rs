@@ -20,6 +20,7 @@ pub fn compile(arguments: &Arguments) -> Result<Answer, Failure> {
     }
     let (_, names) = document.policy_and_names(None)?;
     let no_book = document.no_book(&names);
-    let notes = no_book.map(|failure| format!("{}\nthe policy file is written, but no book can be built of it", failure.message));
+    let notes = no_book
+        .map(|failure| format!("{}\nthe policy file is written, but no book can be built of it", failure.message));
     Ok(Answer { output: document.bytes, notes: notes.into_iter().collect(), binary: true, ..Answer::default() })
 }

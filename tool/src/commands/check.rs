@@ -61,7 +61,8 @@ struct Checked {
 fn check_file(file: &str, given: Option<&Given>) -> Result<Checked, Failure> {
     let subject = read(file)?.subject(given)?;
     let findings = subject.findings()?;
-    let mut checked = Checked { subject, findings, deciding: None, superfluous: Vec::new(), together: false, remarks: Vec::new() };
+    let mut checked =
+        Checked { subject, findings, deciding: None, superfluous: Vec::new(), together: false, remarks: Vec::new() };
     let Some(policy) = &checked.subject.policy else {
         return Ok(checked);
     };
@@ -110,7 +111,9 @@ impl Checked {
         let mut lines = vec![self.headline()];
         if let Some(finding) = &self.findings.conflict {
             lines.push(format!("  conflict: {}", of_request(names, finding, Outcome::Both)));
-            lines.extend(self.deciding.as_ref().map(|deciding| format!("            {}", self.deciding_words(deciding))));
+            lines.extend(
+                self.deciding.as_ref().map(|deciding| format!("            {}", self.deciding_words(deciding))),
+            );
             lines.extend(self.further(finding.request, Outcome::Both));
         }
         if let Some(finding) = &self.findings.missing {
@@ -131,7 +134,9 @@ impl Checked {
     fn headline(&self) -> String {
         let states = count(self.subject.book.states(), "state");
         match &self.subject.policy {
-            Some(policy) => format!("{}: {}, a book of {states}", self.subject.document.name, count(policy.rules.len(), "rule")),
+            Some(policy) => {
+                format!("{}: {}, a book of {states}", self.subject.document.name, count(policy.rules.len(), "rule"))
+            }
             None => format!("{}: a book of {states}", self.subject.document.name),
         }
     }
@@ -140,7 +145,8 @@ impl Checked {
     fn further(&self, but: usize, outcome: Outcome) -> Option<String> {
         let book = &self.subject.book;
         let states = book.reached();
-        let somewhere = |&request: &usize| request != but && states.iter().any(|&state| book.outcome(state, request) == outcome);
+        let somewhere =
+            |&request: &usize| request != but && states.iter().any(|&state| book.outcome(state, request) == outcome);
         let requests: Vec<usize> = (0..book.frame().requests()).filter(somewhere).collect();
         let products = cover::cover(book.frame(), &requests);
         let words: Vec<String> = products.iter().map(|product| cover::words(&self.subject.names, product)).collect();
@@ -150,7 +156,8 @@ impl Checked {
     /// Which rules accept, and which reject.
     fn deciding_words(&self, deciding: &Deciding) -> String {
         let side = |rules: &BTreeSet<usize>, verb: &str| {
-            let places: Vec<String> = rules.iter().map(|&rule| rule_place(rule, self.subject.document.rule_lines())).collect();
+            let places: Vec<String> =
+                rules.iter().map(|&rule| rule_place(rule, self.subject.document.rule_lines())).collect();
             let ending = if places.len() == 1 { "s" } else { "" };
             format!("{} {verb}{ending}", places.join(" and "))
         };
@@ -242,6 +249,8 @@ fn first_after(names: &Names, history: &[u8]) -> String {
 fn blocked_words(names: &Names, finding: &Finding) -> String {
     match finding.history.is_empty() {
         true => "from the start: no request is ever answered".to_string(),
-        false => format!("{}: no request is answered any more, whatever events follow", first_after(names, &finding.history)),
+        false => {
+            format!("{}: no request is answered any more, whatever events follow", first_after(names, &finding.history))
+        }
     }
 }

@@ -20,10 +20,12 @@ pub fn compare(arguments: &Arguments) -> Result<Answer, Failure> {
     if !arguments.by_order {
         match_names(&first, &mut second)?;
     }
-    let found = library::compare(first.book.bytes(), second.book.bytes()).map_err(|number| refused(number, &first, &second))?;
+    let found =
+        library::compare(first.book.bytes(), second.book.bytes()).map_err(|number| refused(number, &first, &second))?;
     let names = if first.named { &first.names } else { &second.names };
     let files = [&first, &second].map(|subject| subject.document.name.as_str());
-    let possible_in = found.as_ref().map(|history| if allows(&first.book, history) { files } else { [files[1], files[0]] });
+    let possible_in =
+        found.as_ref().map(|history| if allows(&first.book, history) { files } else { [files[1], files[0]] });
     let words = match (&found, possible_in) {
         (Some(history), Some([possible, not_possible])) => format!(
             "different: the earliest history possible under just one of them is\n  {}\n  possible: {possible}\n  not possible: {not_possible}\n",
@@ -53,12 +55,20 @@ fn match_names(first: &Subject, second: &mut Subject) -> Result<(), Failure> {
         return Ok(());
     };
     let same_order = first.names.events == second.names.events
-        && first.names.fields.iter().map(|field| &field.values).eq(second.names.fields.iter().map(|field| &field.values));
-    if same_order || first.book.frame().requests() != second.book.frame().requests() || first.book.frame().events != second.book.frame().events {
+        && first.names.fields.iter().map(|field| &field.values).eq(second
+            .names
+            .fields
+            .iter()
+            .map(|field| &field.values));
+    if same_order
+        || first.book.frame().requests() != second.book.frame().requests()
+        || first.book.frame().events != second.book.frame().events
+    {
         return Ok(());
     }
     let Some(policy) = in_order_of(policy, &second.names, &first.names) else {
-        let [one, other] = [(first, &first.names), (second, &second.names)].map(|(subject, names)| (subject.document.name.as_str(), names));
+        let [one, other] = [(first, &first.names), (second, &second.names)]
+            .map(|(subject, names)| (subject.document.name.as_str(), names));
         return Err(Failure::of_use(format!(
             "{}, {}: the two texts do not name the same things\n    {}\n    by their order, whatever the names are: policybook compare --by-order ..",
             one.0,

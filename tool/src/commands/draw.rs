@@ -20,9 +20,14 @@ pub fn draw(arguments: &Arguments) -> Result<Answer, Failure> {
     let states = subject.book.states();
     if path.is_none() && states > MOST_STATES && !arguments.whole {
         let states = count(states, "state");
-        let finding = first_finding(&subject)?.map_or(String::new(), |which| format!("\n    the path to a finding: policybook draw --finding {which} {file}"));
+        let finding = first_finding(&subject)?.map_or(String::new(), |which| {
+            format!("\n    the path to a finding: policybook draw --finding {which} {file}")
+        });
         return Err(Failure::of_use(format!(
-            "{file}: its book has {states}, too many for one picture that can be read (at most {MOST_STATES})\n    the page shows them all: policybook page {file}\n    the path of some steps: policybook draw --after 'STEPS' {file}{finding}\n    all the same, on a large sheet: policybook draw --whole {file}"
+            "{file}: its book has {states}, too many for one picture that can be read (at most {MOST_STATES})\n    \
+             the page shows them all: policybook page {file}\n    \
+             the path of some steps: policybook draw --after 'STEPS' {file}{finding}\n    \
+             all the same, on a large sheet: policybook draw --whole {file}"
         )));
     }
     let title = Path::new(file).file_name().map_or(file.into(), |name| name.to_string_lossy());
@@ -43,7 +48,8 @@ fn path(subject: &Subject, arguments: &Arguments) -> Result<Option<Vec<u8>>, Fai
         (None, None) => Ok(None),
         (Some(_), Some(_)) => Err(wrong("either `--finding` or `--after` is given, not both", Some(Command::Draw))),
         (None, Some(steps)) => {
-            let steps = parse_steps(&subject.names, std::slice::from_ref(steps)).map_err(|message| wrong(&message, Some(Command::Draw)))?;
+            let steps = parse_steps(&subject.names, std::slice::from_ref(steps))
+                .map_err(|message| wrong(&message, Some(Command::Draw)))?;
             walk(subject, &steps)?;
             Ok(Some(steps))
         }
@@ -65,7 +71,12 @@ fn finding_path(subject: &Subject, which: &str) -> Result<Vec<u8>, Failure> {
         "conflict" => findings.conflict,
         "missing" => findings.missing,
         "blocked" => findings.blocked,
-        _ => return Err(wrong(&format!("a finding is conflict, missing or blocked; found `{which}`"), Some(Command::Draw))),
+        _ => {
+            return Err(wrong(
+                &format!("a finding is conflict, missing or blocked; found `{which}`"),
+                Some(Command::Draw),
+            ))
+        }
     };
     match finding {
         Some(finding) => Ok(finding.history),

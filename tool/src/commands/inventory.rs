@@ -55,7 +55,9 @@ impl<'a> Group<'a> {
         self.files.push(file);
         match (&self.named, names) {
             (None, Some(names)) => self.named = Some((file, names.clone())),
-            (Some((_, first)), Some(names)) if first.events != names.events || first.fields != names.fields => self.otherwise.push(file),
+            (Some((_, first)), Some(names)) if first.events != names.events || first.fields != names.fields => {
+                self.otherwise.push(file)
+            }
             _ => {}
         }
     }
@@ -88,13 +90,21 @@ impl<'a> Groups<'a> {
     fn words(&self, failures: usize) -> String {
         let mut lines = Vec::new();
         for group in self.groups.iter().filter(|group| group.files.len() > 1) {
-            lines.push(format!("{} equal books of {}:", group.files.len(), count(usize::from(group.book[11]), "state")));
+            lines.push(format!(
+                "{} equal books of {}:",
+                group.files.len(),
+                count(usize::from(group.book[11]), "state")
+            ));
             lines.extend(group.files.iter().map(|file| format!("  {file}")));
             if let (Some((first, _)), false) = (&group.named, group.otherwise.is_empty()) {
-                lines.push(format!("  equal as books, but with other names than in {first}: {}", group.otherwise.join(", ")));
+                lines.push(format!(
+                    "  equal as books, but with other names than in {first}: {}",
+                    group.otherwise.join(", ")
+                ));
             }
         }
-        let single: Vec<&str> = self.groups.iter().filter(|group| group.files.len() == 1).map(|group| group.files[0]).collect();
+        let single: Vec<&str> =
+            self.groups.iter().filter(|group| group.files.len() == 1).map(|group| group.files[0]).collect();
         if !single.is_empty() {
             lines.push("unlike every other book:".to_string());
             lines.extend(single.iter().map(|file| format!("  {file}")));
@@ -130,7 +140,12 @@ struct Progress {
 
 impl Progress {
     fn new(files: usize) -> Progress {
-        Progress { files, next: Instant::now() + Duration::from_millis(500), shown: false, terminal: io::stderr().is_terminal() }
+        Progress {
+            files,
+            next: Instant::now() + Duration::from_millis(500),
+            shown: false,
+            terminal: io::stderr().is_terminal(),
+        }
     }
 
     fn show(&mut self, done: usize) {

@@ -122,9 +122,10 @@ impl Command {
         let mut read = arguments.words.iter().chain(&arguments.names);
         let same = read.find(|word| fs::canonicalize(word).is_ok_and(|path| path == output));
         match same {
-            Some(word) if is_file && self != Command::Print => {
-                Err(wrong(&format!("{word} is read, and would be written over; name another file after -o"), Some(self)))
-            }
+            Some(word) if is_file && self != Command::Print => Err(wrong(
+                &format!("{word} is read, and would be written over; name another file after -o"),
+                Some(self),
+            )),
             _ => Ok(()),
         }
     }
@@ -142,7 +143,9 @@ fn one_file(arguments: &Arguments, command: Command) -> Result<&str, Failure> {
         [] => Err(wrong("no file is named", Some(command))),
         [_, more, ..] => {
             let hint = match command {
-                Command::Draw => "the picture is written to the file after -o, and the steps of --after stand in quotes",
+                Command::Draw => {
+                    "the picture is written to the file after -o, and the steps of --after stand in quotes"
+                }
                 _ => "the file to write stands after -o",
             };
             Err(wrong(&format!("one file is expected, and `{more}` is one more; {hint}"), Some(command)))

@@ -17,8 +17,15 @@ pub fn way(arguments: &Arguments) -> Result<Answer, Failure> {
     let names = &subject.names;
     let (request, rest) = parse_request(names, words).map_err(|message| wrong(&message, Some(Command::Way)))?;
     let outcome = match &rest[..] {
-        [word] => Outcome::named(word).ok_or_else(|| wrong(&format!("an outcome is none, accept, reject or both; found `{word}`"), Some(Command::Way)))?,
-        _ => return Err(wrong("after the request one outcome is expected: none, accept, reject or both", Some(Command::Way))),
+        [word] => Outcome::named(word).ok_or_else(|| {
+            wrong(&format!("an outcome is none, accept, reject or both; found `{word}`"), Some(Command::Way))
+        })?,
+        _ => {
+            return Err(wrong(
+                "after the request one outcome is expected: none, accept, reject or both",
+                Some(Command::Way),
+            ))
+        }
     };
     let requests = subject.book.frame().requests();
     let found = library::way(subject.book.bytes(), request, outcome.number()).map_err(|number| {
@@ -28,7 +35,9 @@ pub fn way(arguments: &Arguments) -> Result<Answer, Failure> {
     let words = match &found {
         None => format!("there is no history after which {what}\n"),
         Some(history) if history.is_empty() => format!("already at the start {what}\n"),
-        Some(history) => format!("{what}, at the earliest after {}: {}\n", count(history.len(), "step"), names.history(history)),
+        Some(history) => {
+            format!("{what}, at the earliest after {}: {}\n", count(history.len(), "step"), names.history(history))
+        }
     };
     let json = Json::Object(vec![
         ("file", file.as_str().into()),

@@ -72,14 +72,7 @@ impl Block {
         let width = width(text, LETTERS) + 2.0 * TAG_INSIDE;
         let y = y + (LINE - TAG_HEIGHT) / 2.0;
         let text = text.to_string();
-        self.tags.push(Tag {
-            x,
-            y,
-            width,
-            height: TAG_HEIGHT,
-            text,
-            kind,
-        });
+        self.tags.push(Tag { x, y, width, height: TAG_HEIGHT, text, kind });
         width
     }
 
@@ -89,13 +82,7 @@ impl Block {
             return;
         }
         let y = y + LINE / 2.0 + LETTERS * 0.36;
-        self.lines.push(Line {
-            x,
-            y,
-            text: text.to_string(),
-            bold: false,
-            size: LETTERS,
-        });
+        self.lines.push(Line { x, y, text: text.to_string(), bold: false, size: LETTERS });
     }
 
     /// Rows below each other, tags in a column, as wide as all of them need.
@@ -125,14 +112,9 @@ fn broken(row: &Row) -> Vec<String> {
 fn words_width<'a>(rows: impl Iterator<Item = &'a Row>) -> f64 {
     let lines = rows.flat_map(|row| {
         let indents = std::iter::once(0.0).chain(std::iter::repeat(INDENT));
-        broken(row)
-            .into_iter()
-            .zip(indents)
-            .collect::<Vec<(String, f64)>>()
+        broken(row).into_iter().zip(indents).collect::<Vec<(String, f64)>>()
     });
-    lines
-        .map(|(line, indent)| indent + width(&line, LETTERS))
-        .fold(0.0, f64::max)
+    lines.map(|(line, indent)| indent + width(&line, LETTERS)).fold(0.0, f64::max)
 }
 
 /// The label of an arrow.
@@ -176,38 +158,19 @@ pub fn node(node: &Node) -> Block {
     block.height = y + BOX_INSIDE;
     block.width = (block.width + BOX_INSIDE).max(LEAST_BOX);
     let alone = node.is_bare();
-    let x = if alone {
-        (block.width - heading) / 2.0
-    } else {
-        BOX_INSIDE
-    };
+    let x = if alone { (block.width - heading) / 2.0 } else { BOX_INSIDE };
     let y = BOX_INSIDE + LINE / 2.0 + HEADING * 0.36;
     let text = node.heading.clone();
-    block.lines.push(Line {
-        x,
-        y,
-        text,
-        bold: true,
-        size: HEADING,
-    });
+    block.lines.push(Line { x, y, text, bold: true, size: HEADING });
     block
 }
 
 /// The title in lines of a width.
 pub fn title(title: &str, width: f64) -> Block {
-    let mut block = Block {
-        width,
-        ..Block::default()
-    };
+    let mut block = Block { width, ..Block::default() };
     for text in wrap(title, TITLE * BOLD, width) {
         let y = block.height + TITLE;
-        block.lines.push(Line {
-            x: 0.0,
-            y,
-            text,
-            bold: true,
-            size: TITLE,
-        });
+        block.lines.push(Line { x: 0.0, y, text, bold: true, size: TITLE });
         block.height += TITLE * 1.4;
     }
     block
@@ -215,10 +178,7 @@ pub fn title(title: &str, width: f64) -> Block {
 
 /// The entries of a legend in lines of a width: a tag, and what it means.
 pub fn legend(entries: &[Entry], most: f64) -> Block {
-    let mut block = Block {
-        width: most,
-        ..Block::default()
-    };
+    let mut block = Block { width: most, ..Block::default() };
     for entry in entries {
         let indent = match &entry.tag {
             Some((tag, kind)) => block.tag(0.0, block.height, tag, *kind) + COLUMN_GAP,

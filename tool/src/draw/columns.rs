@@ -29,28 +29,15 @@ pub struct Columns {
 pub fn columns(layers: &Layers, places: &Places, count: usize) -> Columns {
     let of_rank = columns_of_ranks(layers, places, count);
     let last = of_rank.last().copied().unwrap_or(0);
-    let mut columns = Columns {
-        of_rank,
-        shifts: Vec::new(),
-        lanes: Vec::new(),
-        length: 0.0,
-        across: 0.0,
-    };
+    let mut columns = Columns { of_rank, shifts: Vec::new(), lanes: Vec::new(), length: 0.0, across: 0.0 };
     for column in 0..=last {
         let (low, high) = columns.extent(layers, places, column);
         let ranks = places.ranks.iter().zip(&columns.of_rank);
-        let ranks: Vec<(f64, f64)> = ranks
-            .filter(|(_, of)| **of == column)
-            .map(|(&extent, _)| extent)
-            .collect();
+        let ranks: Vec<(f64, f64)> = ranks.filter(|(_, of)| **of == column).map(|(&extent, _)| extent).collect();
         let (begin, end) = (ranks[0].0, ranks[ranks.len() - 1].1);
         let above = if column == 0 { 0.0 } else { ABOVE };
         let below = if column == last { 0.0 } else { TURN };
-        let left = if column == 0 {
-            0.0
-        } else {
-            columns.length + BETWEEN
-        };
+        let left = if column == 0 { 0.0 } else { columns.length + BETWEEN };
         columns.shifts.push((left - low, above - begin));
         columns.length = left + high - low;
         columns.lanes.push(columns.length + BETWEEN / 2.0);
@@ -65,10 +52,7 @@ impl Columns {
         let cells = layers.cells.iter().zip(&places.along);
         let own = cells.filter(|(cell, _)| self.of_rank[cell.rank] == column);
         own.fold((f64::MAX, f64::MIN), |(low, high), (cell, middle)| {
-            (
-                low.min(middle - cell.length / 2.0),
-                high.max(middle + cell.length / 2.0),
-            )
+            (low.min(middle - cell.length / 2.0), high.max(middle + cell.length / 2.0))
         })
     }
 }
@@ -88,9 +72,7 @@ fn columns_of_ranks(layers: &Layers, places: &Places, count: usize) -> Vec<usize
     }
     let columns = filled(places, &pieces, high);
     let pieces = pieces.iter().zip(columns);
-    pieces
-        .flat_map(|(piece, column)| vec![column; piece.len()])
-        .collect()
+    pieces.flat_map(|(piece, column)| vec![column; piece.len()]).collect()
 }
 
 /// The ranks in pieces that must not be parted.
@@ -101,15 +83,9 @@ fn pieces(layers: &Layers) -> Vec<Range<usize>> {
     }
     let may_begin = |&rank: &usize| rank % 2 == 1 && rank > 1 && links_into[rank] == 1;
     let ranks = 0..layers.ranks.len();
-    let begins: Vec<usize> = std::iter::once(0)
-        .chain(ranks.clone().filter(may_begin))
-        .collect();
+    let begins: Vec<usize> = std::iter::once(0).chain(ranks.clone().filter(may_begin)).collect();
     let ends = begins.iter().skip(1).copied().chain([ranks.end]);
-    begins
-        .iter()
-        .zip(ends)
-        .map(|(&begin, end)| begin..end)
-        .collect()
+    begins.iter().zip(ends).map(|(&begin, end)| begin..end).collect()
 }
 
 /// The column of each piece if columns are filled up to a height; a higher piece has its own.

@@ -14,10 +14,7 @@ pub fn cover(frame: &Frame, requests: &[usize]) -> Vec<Vec<u16>> {
     let by_size = greedy(&grid, set, |size, full| [size, full]);
     let by_any = greedy(&grid, set, |size, full| [full, size]);
     let length = |products: &[Vec<u16>]| {
-        let named = products
-            .iter()
-            .map(|product| named_values(frame, product))
-            .sum::<usize>();
+        let named = products.iter().map(|product| named_values(frame, product)).sum::<usize>();
         (products.len(), named)
     };
     if length(&by_any) < length(&by_size) {
@@ -93,17 +90,10 @@ impl Grid<'_> {
     /// The requests of a product.
     fn members(&self, product: &[u16]) -> u64 {
         let having = |(values, &mask): (&Vec<u64>, &u16)| {
-            let chosen = values
-                .iter()
-                .enumerate()
-                .filter(|(value, _)| mask >> value & 1 == 1);
+            let chosen = values.iter().enumerate().filter(|(value, _)| mask >> value & 1 == 1);
             chosen.fold(0, |set, (_, members)| set | members)
         };
-        self.having
-            .iter()
-            .zip(product)
-            .map(having)
-            .fold(u64::MAX, |set, members| set & members)
+        self.having.iter().zip(product).map(having).fold(u64::MAX, |set, members| set & members)
     }
 }
 
@@ -112,9 +102,7 @@ impl Grid<'_> {
 fn best(grid: &Grid, set: u64, merit: Merit) -> Vec<u16> {
     // All masks of all fields but the widest are tried; that one's follows from them.
     let counts = &grid.frame.counts;
-    let widest = (0..counts.len())
-        .max_by_key(|&field| counts[field])
-        .unwrap_or(0);
+    let widest = (0..counts.len()).max_by_key(|&field| counts[field]).unwrap_or(0);
     let mut tried = vec![1; counts.len()];
     let mut best = None;
     loop {
@@ -136,18 +124,10 @@ fn best(grid: &Grid, set: u64, merit: Merit) -> Vec<u16> {
 
 /// What is greater for the better product.
 fn key(frame: &Frame, product: &[u16], merit: Merit) -> ([usize; 2], Vec<u16>) {
-    let size = product
-        .iter()
-        .map(|mask| mask.count_ones() as usize)
-        .product();
+    let size = product.iter().map(|mask| mask.count_ones() as usize).product();
     let masks = product.iter().zip(&frame.counts);
-    let full = masks
-        .filter(|(&mask, &count)| mask == full_mask(count))
-        .count();
-    (
-        merit(size, full),
-        product.iter().map(|mask| mask.reverse_bits()).collect(),
-    )
+    let full = masks.filter(|(&mask, &count)| mask == full_mask(count)).count();
+    (merit(size, full), product.iter().map(|mask| mask.reverse_bits()).collect())
 }
 
 /// The next masks of all fields but one; false if there are no more.
@@ -184,14 +164,7 @@ mod tests {
 
     #[test]
     fn every_set_of_small_frames() {
-        for counts in [
-            vec![9],
-            vec![3, 3],
-            vec![2, 2, 2],
-            vec![2, 1, 2, 2],
-            vec![5, 2],
-            vec![1],
-        ] {
+        for counts in [vec![9], vec![3, 3], vec![2, 2, 2], vec![2, 1, 2, 2], vec![5, 2], vec![1]] {
             let frame = Frame { events: 0, counts };
             for set in 0..1_usize << frame.requests() {
                 let members = (0..frame.requests()).filter(|request| set >> request & 1 == 1);
@@ -203,13 +176,7 @@ mod tests {
     #[test]
     fn some_sets_of_the_largest_frames() {
         let mut seed = 1_u64;
-        for counts in [
-            vec![8, 8],
-            vec![16, 4],
-            vec![4, 4, 4],
-            vec![2, 4, 2, 4],
-            vec![1, 16, 1, 4],
-        ] {
+        for counts in [vec![8, 8], vec![16, 4], vec![4, 4, 4], vec![2, 4, 2, 4], vec![1, 16, 1, 4]] {
             let frame = Frame { events: 3, counts };
             for _ in 0..40 {
                 seed = seed.wrapping_mul(6_364_136_223_846_793_005).wrapping_add(1);
@@ -221,28 +188,16 @@ mod tests {
 
     #[test]
     fn said_as_in_the_rules() {
-        let frame = Frame {
-            events: 0,
-            counts: vec![3, 3],
-        };
+        let frame = Frame { events: 0, counts: vec![3, 3] };
         let names = Names::made_up(&frame, 0);
         let said = |requests: &[usize]| -> Vec<String> {
-            cover(&frame, requests)
-                .iter()
-                .map(|product| words(&names, product))
-                .collect()
+            cover(&frame, requests).iter().map(|product| words(&names, product)).collect()
         };
         assert_eq!(said(&[1, 2, 4, 5]), ["a0 or a1, b1 or b2"]);
         assert_eq!(said(&[0, 1, 2, 5]), ["a0, any", "a1, b2"]);
         assert_eq!(said(&(0..9).collect::<Vec<usize>>()), ["any request"]);
         assert!(said(&[]).is_empty());
-        let single = Names::made_up(
-            &Frame {
-                events: 0,
-                counts: vec![2],
-            },
-            0,
-        );
+        let single = Names::made_up(&Frame { events: 0, counts: vec![2] }, 0);
         assert_eq!(words(&single, &[3]), "any");
     }
 }

@@ -26,12 +26,7 @@ pub enum Thinning {
 
 impl Thinning {
     /// All, the least first.
-    pub const ALL: [Thinning; 4] = [
-        Thinning::None,
-        Thinning::Near,
-        Thinning::Forward,
-        Thinning::Earliest,
-    ];
+    pub const ALL: [Thinning; 4] = [Thinning::None, Thinning::Near, Thinning::Forward, Thinning::Earliest];
 }
 
 /// The earliest histories to the states: their lengths, by the number of the state (entry
@@ -65,11 +60,7 @@ impl Earliest {
     }
 
     fn none(book: &Book) -> Earliest {
-        Earliest {
-            depths: vec![None; book.states() + 1],
-            pairs: BTreeSet::new(),
-            by_events: BTreeSet::new(),
-        }
+        Earliest { depths: vec![None; book.states() + 1], pairs: BTreeSet::new(), by_events: BTreeSet::new() }
     }
 
     /// Searches breadth first from a state by codes from a first one on, as far as nothing
@@ -150,9 +141,7 @@ fn common_events(book: &Book, earliest: &Earliest) -> BTreeSet<(usize, usize)> {
             .filter_map(|state| Some((state, book.next(state, event)?)))
             .filter(|(state, next)| state != next)
             .collect();
-        let leads_back = |&(state, next): &(usize, usize)| {
-            earliest.back(state, next).is_some_and(|back| back >= 0)
-        };
+        let leads_back = |&(state, next): &(usize, usize)| earliest.back(state, next).is_some_and(|back| back >= 0);
         let many_back = moves.iter().filter(|pair| leads_back(pair)).count() > MOST_EVENT_ARROWS;
         for pair in &moves {
             let alike = moves.iter().filter(|other| other.1 == pair.1).count();

@@ -48,12 +48,7 @@ pub struct Arrow {
 impl Arrow {
     pub fn new(from: usize, to: usize, rows: Vec<Row>) -> Arrow {
         let kind = common_kind(&rows);
-        Arrow {
-            from,
-            to,
-            rows,
-            kind,
-        }
+        Arrow { from, to, rows, kind }
     }
 }
 
@@ -88,12 +83,7 @@ pub struct Said {
 impl Source<'_> {
     pub fn new<'a>(book: &'a Book, names: &'a Names, events: bool) -> Source<'a> {
         let first = if events { 0 } else { book.frame().events };
-        Source {
-            book,
-            names,
-            first,
-            earliest: Earliest::of(book, first),
-        }
+        Source { book, names, first, earliest: Earliest::of(book, first) }
     }
 
     /// The graph of the whole book.
@@ -126,23 +116,14 @@ impl Source<'_> {
         let place = |code: usize| {
             let next = self.book.next(state, code)?;
             let way = drawn.get(&(state, next));
-            let place = if next == state {
-                Place::Stays
-            } else {
-                Place::To(next)
-            };
+            let place = if next == state { Place::Stays } else { Place::To(next) };
             (!way.is_some_and(|codes| codes.contains(&code))).then_some((code, place))
         };
-        let marks = [
-            (blocked(self.book, state), "blocked"),
-            (self.earliest.depths[state].is_none(), "not reached"),
-        ];
+        let marks = [(blocked(self.book, state), "blocked"), (self.earliest.depths[state].is_none(), "not reached")];
         let marks = marks.iter().filter(|(fits, _)| *fits);
         Said {
             marks: marks.map(|&(_, mark)| mark).collect(),
-            listed: (self.first..self.book.frame().width())
-                .filter_map(place)
-                .collect(),
+            listed: (self.first..self.book.frame().width()).filter_map(place).collect(),
         }
     }
 

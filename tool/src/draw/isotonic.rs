@@ -9,22 +9,14 @@ pub fn nearest(wishes: &[(f64, f64)], distances: &[f64]) -> Vec<f64> {
     let mut groups: Vec<(f64, f64, usize)> = Vec::new();
     for (&(wish, weight), shift) in wishes.iter().zip(&shifts) {
         let mut group = ((wish - shift) * weight, weight, 1);
-        while let Some(last) = groups
-            .last()
-            .filter(|last| last.0 / last.1 > group.0 / group.1)
-        {
+        while let Some(last) = groups.last().filter(|last| last.0 / last.1 > group.0 / group.1) {
             group = (group.0 + last.0, group.1 + last.1, group.2 + last.2);
             groups.pop();
         }
         groups.push(group);
     }
-    let begins = groups
-        .iter()
-        .flat_map(|group| vec![group.0 / group.1; group.2]);
-    begins
-        .zip(shifts)
-        .map(|(begin, shift)| begin + shift)
-        .collect()
+    let begins = groups.iter().flat_map(|group| vec![group.0 / group.1; group.2]);
+    begins.zip(shifts).map(|(begin, shift)| begin + shift).collect()
 }
 
 /// The same within bounds, all distances and weights alike. There must be room for all.
@@ -63,10 +55,7 @@ mod tests {
 
     #[test]
     fn bounds_hold() {
-        assert_eq!(
-            nearest_within(&[-50.0, 0.0, 90.0], 5.0, -10.0, 10.0),
-            [-10.0, 0.0, 10.0]
-        );
+        assert_eq!(nearest_within(&[-50.0, 0.0, 90.0], 5.0, -10.0, 10.0), [-10.0, 0.0, 10.0]);
         assert_eq!(nearest_within(&[90.0, 95.0], 5.0, -10.0, 10.0), [5.0, 10.0]);
     }
 }

@@ -73,11 +73,7 @@ impl Blocks {
         };
         Blocks {
             nodes: graph.nodes.iter().enumerate().map(box_of).collect(),
-            labels: graph
-                .arrows
-                .iter()
-                .map(|arrow| block::label(&arrow.rows))
-                .collect(),
+            labels: graph.arrows.iter().map(|arrow| block::label(&arrow.rows)).collect(),
             start: block::start(),
         }
     }
@@ -108,17 +104,9 @@ fn arrows_at_a_side(graph: &Graph, node: usize) -> usize {
 /// Puts all states, labels and dummy cells into ranks, those of a rank in no special order.
 pub fn layers(graph: &Graph, blocks: &Blocks, direction: Direction) -> Layers {
     let deepest = graph.nodes.iter().map(|node| node.layer).max().unwrap_or(0);
-    let mut layers = Layers {
-        cells: Vec::new(),
-        ranks: vec![Vec::new(); 2 * deepest + 3],
-        links: Vec::new(),
-        chains: Vec::new(),
-    };
-    let mut builder = Builder {
-        blocks,
-        direction,
-        layers: &mut layers,
-    };
+    let mut layers =
+        Layers { cells: Vec::new(), ranks: vec![Vec::new(); 2 * deepest + 3], links: Vec::new(), chains: Vec::new() };
+    let mut builder = Builder { blocks, direction, layers: &mut layers };
     for (number, node) in graph.nodes.iter().enumerate() {
         builder.cell(Item::Node(number), 2 * node.layer + 1);
     }
@@ -148,12 +136,7 @@ impl Builder<'_> {
             (Some(block), Direction::Right) => (block.height, block.width),
         };
         let number = self.layers.cells.len();
-        self.layers.cells.push(Cell {
-            item,
-            rank,
-            length,
-            across,
-        });
+        self.layers.cells.push(Cell { item, rank, length, across });
         self.layers.ranks[rank].push(number);
         number
     }
@@ -170,11 +153,7 @@ impl Builder<'_> {
         let label_rank = self.roomiest(low, high);
         let mut between: Vec<usize> = (low + 1..high)
             .map(|rank| {
-                let item = if rank == label_rank {
-                    Item::Label(number)
-                } else {
-                    Item::Dummy
-                };
+                let item = if rank == label_rank { Item::Label(number) } else { Item::Dummy };
                 self.cell(item, rank)
             })
             .collect();
@@ -189,10 +168,7 @@ impl Builder<'_> {
     fn roomiest(&self, low: usize, high: usize) -> usize {
         let filled = |rank: usize| -> f64 {
             let cells = &self.layers.ranks[rank];
-            cells
-                .iter()
-                .map(|&cell| self.layers.cells[cell].length + 20.0)
-                .sum()
+            cells.iter().map(|&cell| self.layers.cells[cell].length + 20.0).sum()
         };
         let middle = (low + high) / 2;
         (low + 1..high)
@@ -207,11 +183,7 @@ impl Builder<'_> {
     fn chain(&mut self, cells: Vec<usize>) {
         for pair in cells.windows(2) {
             let down = self.layers.cells[pair[0]].rank < self.layers.cells[pair[1]].rank;
-            let (upper, lower) = if down {
-                (pair[0], pair[1])
-            } else {
-                (pair[1], pair[0])
-            };
+            let (upper, lower) = if down { (pair[0], pair[1]) } else { (pair[1], pair[0]) };
             self.layers.links.push(Link { upper, lower });
         }
         self.layers.chains.push(cells);

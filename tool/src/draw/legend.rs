@@ -22,16 +22,8 @@ const TAGS: [Meaning; 6] = [
             "leads to state n, which may not be in the picture; what has no → stays",
         ],
     ),
-    (
-        "→ next",
-        Kind::Event,
-        ["", "leads where the numbered step leads"],
-    ),
-    (
-        "→ …",
-        Kind::Event,
-        ["", "leads to different states, none of them in the picture"],
-    ),
+    ("→ next", Kind::Event, ["", "leads where the numbered step leads"]),
+    ("→ …", Kind::Event, ["", "leads to different states, none of them in the picture"]),
     (
         "conflict",
         Kind::Both,
@@ -40,25 +32,13 @@ const TAGS: [Meaning; 6] = [
             "may be both accepted and rejected; each of them stands below it or has a number",
         ],
     ),
-    (
-        "both: conflict",
-        Kind::Both,
-        ["may be both accepted and rejected, and what follows is the same"; 2],
-    ),
-    (
-        "unanswered",
-        Kind::Unanswered,
-        ["neither accepted nor rejected"; 2],
-    ),
+    ("both: conflict", Kind::Both, ["may be both accepted and rejected, and what follows is the same"; 2]),
+    ("unanswered", Kind::Unanswered, ["neither accepted nor rejected"; 2]),
 ];
 
 /// What marks beside the number of a state mean.
 const MARKS: [Meaning; 3] = [
-    (
-        "blocked",
-        Kind::Plain,
-        ["no request is answered, nor after any events"; 2],
-    ),
+    ("blocked", Kind::Plain, ["no request is answered, nor after any events"; 2]),
     ("not reached", Kind::Plain, ["no history leads there"; 2]),
     (BY_EVENTS, Kind::Plain, ["reached only through events"; 2]),
 ];
@@ -90,14 +70,10 @@ pub fn legend(graph: &Graph, events: bool) -> Vec<Entry> {
     entries.extend(has_folded.then_some(said(FOLDED)));
     let tags = TAGS.iter().filter(in_rows);
     let used = tags.chain(MARKS.iter().filter(in_marks));
-    entries.extend(used.map(|&(tag, kind, texts)| Entry {
-        tag: Some((tag, kind)),
-        text: texts[usize::from(graph.is_path)],
-    }));
-    let left_out = [
-        "Events are left out.",
-        "Events are left out, but for those of the history.",
-    ];
+    entries.extend(
+        used.map(|&(tag, kind, texts)| Entry { tag: Some((tag, kind)), text: texts[usize::from(graph.is_path)] }),
+    );
+    let left_out = ["Events are left out.", "Events are left out, but for those of the history."];
     entries.extend((!events).then_some(said(left_out[usize::from(graph.is_path)])));
     entries
 }

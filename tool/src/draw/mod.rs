@@ -61,7 +61,5 @@ fn graph_of(book: &Book, names: &Names, options: &Options) -> Graph {
     };
     let graphs = Thinning::ALL.iter().map(|&thinning| source.whole(thinning));
     let mut graphs = graphs.skip_while(|graph| !readable(graph));
-    graphs
-        .next()
-        .unwrap_or_else(|| source.whole(Thinning::Earliest))
+    graphs.next().unwrap_or_else(|| source.whole(Thinning::Earliest))
 }

@@ -14,10 +14,7 @@ pub struct Neighbours {
 impl Neighbours {
     pub fn of(layers: &Layers) -> Neighbours {
         let none = vec![Vec::new(); layers.cells.len()];
-        let mut neighbours = Neighbours {
-            before: none.clone(),
-            after: none,
-        };
+        let mut neighbours = Neighbours { before: none.clone(), after: none };
         for link in &layers.links {
             neighbours.before[link.lower].push(link.upper);
             neighbours.after[link.upper].push(link.lower);
@@ -36,11 +33,8 @@ pub fn order(layers: &mut Layers) -> usize {
     for sweep in 0..SWEEPS {
         let count = ranks.len();
         for step in 0..count {
-            let (rank, side) = if sweep % 2 == 0 {
-                (step, &neighbours.before)
-            } else {
-                (count - 1 - step, &neighbours.after)
-            };
+            let (rank, side) =
+                if sweep % 2 == 0 { (step, &neighbours.before) } else { (count - 1 - step, &neighbours.after) };
             by_barycenter(&mut ranks[rank], side, &mut places);
         }
         exchange(&mut ranks, &neighbours, &mut places);
@@ -102,12 +96,7 @@ fn exchange(ranks: &mut [Vec<usize>], neighbours: &Neighbours, places: &mut [usi
 
 /// How many pairs of one of the first with one of the second are in the wrong order.
 fn inversions(first: &[usize], second: &[usize], places: &[usize]) -> usize {
-    let wrong = |&one: &usize| {
-        second
-            .iter()
-            .filter(|&&other| places[one] > places[other])
-            .count()
-    };
+    let wrong = |&one: &usize| second.iter().filter(|&&other| places[one] > places[other]).count();
     first.iter().map(wrong).sum()
 }
 
@@ -117,10 +106,7 @@ fn crossings(ranks: &[Vec<usize>], after: &[Vec<usize>], places: &[usize]) -> us
     for rank in ranks {
         for (place, &right) in rank.iter().enumerate() {
             let lefts = &rank[..place];
-            count += lefts
-                .iter()
-                .map(|&left| inversions(&after[left], &after[right], places))
-                .sum::<usize>();
+            count += lefts.iter().map(|&left| inversions(&after[left], &after[right], places)).sum::<usize>();
         }
     }
     count

@@ -17,8 +17,7 @@ pub fn path(source: &Source, codes: &[u8]) -> Graph {
     let drawn = walk.ways();
     let mut said: BTreeMap<usize, Said> = BTreeMap::new();
     for &state in &walk.states {
-        said.entry(state)
-            .or_insert_with(|| source.said(state, &drawn));
+        said.entry(state).or_insert_with(|| source.said(state, &drawn));
     }
     let mut nodes = Vec::new();
     let mut node_of: BTreeMap<usize, usize> = BTreeMap::new();
@@ -58,9 +57,7 @@ fn folded(states: &[usize], first: Node) -> Node {
 fn steps(walk: &Walk, node_of: &BTreeMap<usize, usize>) -> Steps {
     let mut steps = Steps::new();
     for (number, (pair, &code)) in walk.states.windows(2).zip(&walk.codes).enumerate() {
-        let ways = steps
-            .entry((node_of[&pair[0]], node_of[&pair[1]]))
-            .or_default();
+        let ways = steps.entry((node_of[&pair[0]], node_of[&pair[1]])).or_default();
         match ways.iter_mut().find(|(other, _)| *other == code) {
             Some((_, numbers)) => numbers.push(number + 1),
             None => ways.push((code, vec![number + 1])),
@@ -74,10 +71,7 @@ fn steps(walk: &Walk, node_of: &BTreeMap<usize, usize>) -> Steps {
 fn finish(source: &Source, mut nodes: Vec<Node>, steps: &Steps) -> Graph {
     let mut arrows = Vec::new();
     for (&(from, to), ways) in steps {
-        let rows: Vec<Row> = ways
-            .iter()
-            .map(|(code, numbers)| numbered_row(source, *code, numbers))
-            .collect();
+        let rows: Vec<Row> = ways.iter().map(|(code, numbers)| numbered_row(source, *code, numbers)).collect();
         if from == to {
             nodes[from].steps.extend(rows);
         } else {
@@ -87,25 +81,15 @@ fn finish(source: &Source, mut nodes: Vec<Node>, steps: &Steps) -> Graph {
     for (node, depth) in nodes.iter_mut().zip(depths(&arrows)) {
         node.layer = depth;
     }
-    Graph {
-        nodes,
-        arrows,
-        apart: Vec::new(),
-        is_path: true,
-    }
+    Graph { nodes, arrows, apart: Vec::new(), is_path: true }
 }
 
 /// A step with its numbers in the history.
 fn numbered_row(source: &Source, code: usize, numbers: &[usize]) -> Row {
     let (words, tag, kind) = match source.book.frame().step(code) {
         Step::Event(event) => (source.names.event(event), "event", Kind::Event),
-        Step::Decided {
-            request,
-            accepted: true,
-        } => (source.names.request(request), "accepted", Kind::Accepted),
-        Step::Decided { request, .. } => {
-            (source.names.request(request), "rejected", Kind::Rejected)
-        }
+        Step::Decided { request, accepted: true } => (source.names.request(request), "accepted", Kind::Accepted),
+        Step::Decided { request, .. } => (source.names.request(request), "rejected", Kind::Rejected),
     };
     Row::new(format!("{}. {words}", ranges(numbers)), tag, kind)
 }
@@ -127,12 +111,10 @@ fn depths(arrows: &[Arrow]) -> Vec<usize> {
 
 /// Numbers with those that follow each other joined: `1, 4–7, 9`.
 fn ranges(numbers: &[usize]) -> String {
-    let said = numbers
-        .chunk_by(|one, next| one + 1 == *next)
-        .map(|run| match run {
-            [first, .., last] => format!("{first}–{last}"),
-            _ => run[0].to_string(),
-        });
+    let said = numbers.chunk_by(|one, next| one + 1 == *next).map(|run| match run {
+        [first, .., last] => format!("{first}–{last}"),
+        _ => run[0].to_string(),
+    });
     said.collect::<Vec<String>>().join(", ")
 }
 

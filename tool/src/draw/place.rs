@@ -53,12 +53,7 @@ pub fn place(layers: &Layers) -> Places {
     }
     let ranks = rank_extents(layers, &along, &ports);
     let across = ranks.last().map_or(0.0, |&(_, end)| end);
-    Places {
-        along,
-        ranks,
-        ports,
-        across,
-    }
+    Places { along, ranks, ports, across }
 }
 
 /// Sweeps down and up by neighbours on one side, then some by both.
@@ -67,10 +62,7 @@ fn sweeps(layers: &Layers, ports: &Ports, along: &mut [f64]) {
     let count = layers.ranks.len();
     for sweep in 0..SWEEPS {
         let (down, late) = (sweep % 2 == 0, sweep + 6 >= SWEEPS);
-        let sides = Sides {
-            before: down || late,
-            after: !down || late,
-        };
+        let sides = Sides { before: down || late, after: !down || late };
         for step in 0..count {
             let rank = if down { step } else { count - 1 - step };
             settle(layers, rank, &pulls, sides, along);
@@ -84,11 +76,7 @@ fn packed(layers: &Layers) -> Vec<f64> {
     for rank in &layers.ranks {
         let mut at = 0.0;
         for (place, &cell) in rank.iter().enumerate() {
-            at += if place == 0 {
-                0.0
-            } else {
-                distance(layers, rank[place - 1], cell)
-            };
+            at += if place == 0 { 0.0 } else { distance(layers, rank[place - 1], cell) };
             along[cell] = at;
         }
         for &cell in rank {
@@ -122,24 +110,10 @@ fn pulls(layers: &Layers, ports: &Ports) -> Vec<Vec<Pull>> {
     let mut pulls: Vec<Vec<Pull>> = layers.cells.iter().map(|_| Vec::new()).collect();
     let passes = |cell: usize| !matches!(layers.cells[cell].item, Item::Node(_));
     for (link, &(upper_port, lower_port)) in layers.links.iter().zip(ports) {
-        let weight = if passes(link.upper) && passes(link.lower) {
-            BY_PASSING
-        } else {
-            BY_LINK
-        };
+        let weight = if passes(link.upper) && passes(link.lower) { BY_PASSING } else { BY_LINK };
         let offset = upper_port - lower_port;
-        pulls[link.lower].push(Pull {
-            other: link.upper,
-            offset,
-            weight,
-            before: true,
-        });
-        pulls[link.upper].push(Pull {
-            other: link.lower,
-            offset: -offset,
-            weight,
-            before: false,
-        });
+        pulls[link.lower].push(Pull { other: link.upper, offset, weight, before: true });
+        pulls[link.upper].push(Pull { other: link.lower, offset: -offset, weight, before: false });
     }
     pulls
 }
@@ -149,13 +123,7 @@ fn settle(layers: &Layers, rank: usize, pulls: &[Vec<Pull>], sides: Sides, along
     let cells = &layers.ranks[rank];
     let wish = |&cell: &usize| {
         let near = pulls[cell].iter();
-        let near = near.filter(|pull| {
-            if pull.before {
-                sides.before
-            } else {
-                sides.after
-            }
-        });
+        let near = near.filter(|pull| if pull.before { sides.before } else { sides.after });
         let own = match layers.cells[cell].item {
             Item::Node(_) => (0.0, BY_MIDDLE),
             _ => (along[cell] * 0.001, 0.001),
@@ -168,10 +136,7 @@ fn settle(layers: &Layers, rank: usize, pulls: &[Vec<Pull>], sides: Sides, along
         (sum / weight, weight)
     };
     let wishes: Vec<(f64, f64)> = cells.iter().map(wish).collect();
-    let distances: Vec<f64> = cells
-        .windows(2)
-        .map(|pair| distance(layers, pair[0], pair[1]))
-        .collect();
+    let distances: Vec<f64> = cells.windows(2).map(|pair| distance(layers, pair[0], pair[1])).collect();
     for (&cell, middle) in cells.iter().zip(nearest(&wishes, &distances)) {
         along[cell] = middle;
     }
@@ -205,10 +170,7 @@ fn straighten(layers: &Layers, along: &mut [f64]) {
 fn rank_extents(layers: &Layers, along: &[f64], ports: &Ports) -> Vec<(f64, f64)> {
     let mut extents: Vec<(f64, f64)> = Vec::new();
     for (rank, cells) in layers.ranks.iter().enumerate() {
-        let across = cells
-            .iter()
-            .map(|&cell| layers.cells[cell].across)
-            .fold(0.0, f64::max);
+        let across = cells.iter().map(|&cell| layers.cells[cell].across).fold(0.0, f64::max);
         let links = layers.links.iter().zip(ports);
         let slant = links
             .filter(|(link, _)| layers.cells[link.lower].rank == rank)

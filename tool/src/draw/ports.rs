@@ -19,9 +19,7 @@ pub fn length_for(ends: usize) -> f64 {
 
 /// Ends spread evenly over the sides.
 pub fn even_ports(layers: &Layers) -> Ports {
-    ports(layers, |cell, others| {
-        spread(layers.cells[cell].length, others.len())
-    })
+    ports(layers, |cell, others| spread(layers.cells[cell].length, others.len()))
 }
 
 /// Ends as near as possible to where their links come from; at labels spread evenly.
@@ -30,10 +28,7 @@ pub fn straight_ports(layers: &Layers, along: &[f64]) -> Ports {
         if !matches!(layers.cells[cell].item, Item::Node(_)) {
             return spread(layers.cells[cell].length, others.len());
         }
-        let wishes: Vec<f64> = others
-            .iter()
-            .map(|&other| along[other] - along[cell])
-            .collect();
+        let wishes: Vec<f64> = others.iter().map(|&other| along[other] - along[cell]).collect();
         let length = layers.cells[cell].length;
         let half = (length / 2.0 - CORNER).max(length / 4.0);
         let gaps = others.len().saturating_sub(1).max(1);
@@ -56,10 +51,7 @@ fn ports(layers: &Layers, side: impl Fn(usize, &[usize]) -> Vec<f64>) -> Ports {
         }
     }
     // The links at the lower and at the upper side of each cell.
-    let mut sides = [
-        vec![Vec::new(); places.len()],
-        vec![Vec::new(); places.len()],
-    ];
+    let mut sides = [vec![Vec::new(); places.len()], vec![Vec::new(); places.len()]];
     for (number, &Link { upper, lower }) in layers.links.iter().enumerate() {
         sides[0][upper].push((places[lower], lower, number));
         sides[1][lower].push((places[upper], upper, number));
@@ -70,11 +62,7 @@ fn ports(layers: &Layers, side: impl Fn(usize, &[usize]) -> Vec<f64>) -> Ports {
             ends.sort_unstable();
             let others: Vec<usize> = ends.iter().map(|&(_, other, _)| other).collect();
             for (&(_, _, link), port) in ends.iter().zip(side(cell, &others)) {
-                let end = if is_upper_side == 1 {
-                    &mut ports[link].1
-                } else {
-                    &mut ports[link].0
-                };
+                let end = if is_upper_side == 1 { &mut ports[link].1 } else { &mut ports[link].0 };
                 *end = port;
             }
         }

@@ -42,15 +42,11 @@ impl Stroke {
         let toward = |from: Point, to: Point| {
             let (dx, dy) = (to.x - from.x, to.y - from.y);
             let share = CORNER / (dx.abs() + dy.abs()).max(2.0 * CORNER);
-            Point {
-                x: from.x + share * dx,
-                y: from.y + share * dy,
-            }
+            Point { x: from.x + share * dx, y: from.y + share * dy }
         };
         for pair in points.windows(2) {
             self.line_to(toward(pair[0], self.end()));
-            self.curves
-                .push([pair[0], pair[0], toward(pair[0], pair[1])]);
+            self.curves.push([pair[0], pair[0], toward(pair[0], pair[1])]);
         }
         if let Some(&last) = points.last() {
             self.line_to(last);
@@ -96,17 +92,11 @@ impl Router<'_> {
 
     fn route(&self, chain: &[usize], first_link: usize) -> Route {
         let begin = self.side(first_link, chain[0]);
-        let mut strokes = vec![Stroke {
-            begin,
-            curves: Vec::new(),
-        }];
+        let mut strokes = vec![Stroke { begin, curves: Vec::new() }];
         let (mut tip, mut tail) = (begin, begin);
         for (step, pair) in chain.windows(2).enumerate() {
             let link = first_link + step;
-            let mut stroke = strokes.pop().unwrap_or(Stroke {
-                begin,
-                curves: Vec::new(),
-            });
+            let mut stroke = strokes.pop().unwrap_or(Stroke { begin, curves: Vec::new() });
             tip = self.side(link, pair[1]);
             let is_last = step + 2 == chain.len();
             self.follow(&mut stroke, link, pair[0], if is_last { HEAD } else { 0.0 });
@@ -114,10 +104,7 @@ impl Router<'_> {
             strokes.push(stroke);
             if matches!(self.layers.cells[pair[1]].item, Item::Label(_)) {
                 let begin = self.side(link + 1, pair[1]);
-                strokes.push(Stroke {
-                    begin,
-                    curves: Vec::new(),
-                });
+                strokes.push(Stroke { begin, curves: Vec::new() });
             }
         }
         Route { strokes, tip, tail }
@@ -132,11 +119,7 @@ impl Router<'_> {
         let to = if down { ends.lower } else { ends.upper };
         let back = if down { -short } else { short };
         let (upper_rank, lower_rank) = (self.rank(ends.upper), self.rank(ends.lower));
-        let (out, into) = if down {
-            (upper_rank.1, lower_rank.0)
-        } else {
-            (lower_rank.0, upper_rank.1)
-        };
+        let (out, into) = if down { (upper_rank.1, lower_rank.0) } else { (lower_rank.0, upper_rank.1) };
         let (from_port, to_port) = (self.port(link, from), self.port(link, to));
         stroke.line_to(self.side(link, from));
         let end = self.point(to, to_port, self.sides(to, down) + back);
@@ -161,16 +144,8 @@ impl Router<'_> {
     /// The corners of a link to the next column, from its upper cell to its lower one.
     fn between_columns(&self, link: usize) -> Vec<Point> {
         let ends = &self.layers.links[link];
-        let bottom = self.point(
-            ends.upper,
-            self.port(link, ends.upper),
-            self.rank(ends.upper).1,
-        );
-        let top = self.point(
-            ends.lower,
-            self.port(link, ends.lower),
-            self.rank(ends.lower).0,
-        );
+        let bottom = self.point(ends.upper, self.port(link, ends.upper), self.rank(ends.upper).1);
+        let top = self.point(ends.lower, self.port(link, ends.lower), self.rank(ends.lower).0);
         let lane = self.columns.lanes[self.column(ends.upper)];
         let (low, high) = (bottom.y + TURN, top.y - TURN - HEAD);
         let corners = [(bottom.x, low), (lane, low), (lane, high), (top.x, high)];
@@ -205,16 +180,8 @@ impl Router<'_> {
     fn sides(&self, number: usize, is_begin: bool) -> f64 {
         let (begin, end) = self.rank(number);
         let cell = &self.layers.cells[number];
-        let across = if cell.item == Item::Dummy {
-            end - begin
-        } else {
-            cell.across
-        };
-        let half = if is_begin {
-            -across / 2.0
-        } else {
-            across / 2.0
-        };
+        let across = if cell.item == Item::Dummy { end - begin } else { cell.across };
+        let half = if is_begin { -across / 2.0 } else { across / 2.0 };
         (begin + end) / 2.0 + half
     }
 
@@ -224,14 +191,8 @@ impl Router<'_> {
         let shift = self.columns.shifts[self.column(cell)];
         let (along, across) = (self.places.along[cell] + port + shift.0, across + shift.1);
         match self.direction {
-            Direction::Down => Point {
-                x: along,
-                y: across,
-            },
-            Direction::Right => Point {
-                x: across,
-                y: along,
-            },
+            Direction::Down => Point { x: along, y: across },
+            Direction::Right => Point { x: across, y: along },
         }
     }
 }

@@ -29,20 +29,12 @@ pub struct Row {
 
 impl Row {
     pub fn new(words: String, tag: &str, kind: Kind) -> Row {
-        Row {
-            words,
-            tag: tag.to_string(),
-            kind,
-            part: false,
-        }
+        Row { words, tag: tag.to_string(), kind, part: false }
     }
 
     /// A row that says more of what the row before is about.
     pub fn part(tag: &str, kind: Kind) -> Row {
-        Row {
-            part: true,
-            ..Row::new(String::new(), tag, kind)
-        }
+        Row { part: true, ..Row::new(String::new(), tag, kind) }
     }
 }
 
@@ -50,11 +42,9 @@ impl Row {
 pub fn arrow_rows(names: &Names, codes: &[usize]) -> Vec<Row> {
     let frame = names.frame();
     let mut rows = Vec::new();
-    for (kind, tag) in [
-        (Kind::Accepted, "accepted"),
-        (Kind::Rejected, "rejected"),
-        (Kind::Both, "accepted or rejected"),
-    ] {
+    for (kind, tag) in
+        [(Kind::Accepted, "accepted"), (Kind::Rejected, "rejected"), (Kind::Both, "accepted or rejected")]
+    {
         let requests = requests_of_kind(&frame, codes, kind);
         let row = |words| Row::new(words, tag, kind);
         rows.extend(products(names, &frame, &requests).map(row));
@@ -68,11 +58,7 @@ pub fn arrow_rows(names: &Names, codes: &[usize]) -> Vec<Row> {
 }
 
 /// The words of the products that cover some requests.
-pub fn products<'a>(
-    names: &'a Names,
-    frame: &Frame,
-    requests: &[usize],
-) -> impl Iterator<Item = String> + 'a {
+pub fn products<'a>(names: &'a Names, frame: &Frame, requests: &[usize]) -> impl Iterator<Item = String> + 'a {
     let products = cover(frame, requests).into_iter();
     products.map(|product| words(names, &product))
 }

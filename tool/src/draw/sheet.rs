@@ -60,16 +60,8 @@ pub fn sheet(graph: &Graph, title: &str, legend: &[Entry]) -> Sheet {
     let title = block::title(title, inner);
     let legend = block::legend(legend, inner);
     sheet.shift(MARGIN + shift, MARGIN + title.height + TEXT_GAP);
-    sheet.texts.push(Placed {
-        x: MARGIN,
-        y: MARGIN,
-        block: title,
-    });
-    sheet.texts.push(Placed {
-        x: MARGIN,
-        y: sheet.height + TEXT_GAP * 2.0,
-        block: legend.clone(),
-    });
+    sheet.texts.push(Placed { x: MARGIN, y: MARGIN, block: title });
+    sheet.texts.push(Placed { x: MARGIN, y: sheet.height + TEXT_GAP * 2.0, block: legend.clone() });
     sheet.width = inner + 2.0 * MARGIN;
     sheet.height += TEXT_GAP * 2.0 + legend.height + MARGIN;
     sheet
@@ -78,9 +70,7 @@ pub fn sheet(graph: &Graph, title: &str, legend: &[Entry]) -> Sheet {
 /// How large the drawing is on a sheet of paper, which may be turned.
 fn fit(sheet: &Sheet) -> f64 {
     let scale = |width: f64, height: f64| (width / sheet.width).min(height / sheet.height);
-    scale(PAPER.0, PAPER.1)
-        .max(scale(PAPER.1, PAPER.0))
-        .min(1.0)
+    scale(PAPER.0, PAPER.1).max(scale(PAPER.1, PAPER.0)).min(1.0)
 }
 
 /// The drawing alone. Downward in one column is easiest to read; another is taken only if
@@ -112,33 +102,15 @@ impl Arranged {
         let mut layers = layers(graph, &blocks, direction);
         order(&mut layers);
         let places = place(&layers);
-        Arranged {
-            blocks,
-            layers,
-            places,
-            direction,
-        }
+        Arranged { blocks, layers, places, direction }
     }
 
     /// The drawing in about so many columns.
     pub fn sheet(&self, count: usize) -> Sheet {
-        let Arranged {
-            blocks,
-            layers,
-            places,
-            direction,
-        } = self;
+        let Arranged { blocks, layers, places, direction } = self;
         let columns = columns(layers, places, count);
-        let router = Router {
-            layers,
-            places,
-            columns: &columns,
-            direction: *direction,
-        };
-        let mut sheet = Sheet {
-            routes: router.routes(),
-            ..Sheet::default()
-        };
+        let router = Router { layers, places, columns: &columns, direction: *direction };
+        let mut sheet = Sheet { routes: router.routes(), ..Sheet::default() };
         (sheet.width, sheet.height) = match direction {
             Direction::Down => (columns.length, columns.across),
             Direction::Right => (columns.across, columns.length),
@@ -190,11 +162,7 @@ impl Sheet {
 
     /// Moves everything, and makes room for that.
     fn shift(&mut self, right: f64, down: f64) {
-        let placed = self
-            .boxes
-            .iter_mut()
-            .chain(&mut self.labels)
-            .chain(&mut self.texts);
+        let placed = self.boxes.iter_mut().chain(&mut self.labels).chain(&mut self.texts);
         for placed in placed {
             placed.x += right;
             placed.y += down;

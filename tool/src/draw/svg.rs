@@ -32,11 +32,7 @@ pub fn svg(graph: &Graph, sheet: &Sheet, title: &str, description: &str) -> Stri
     out += &format!("<title id=\"title\">{}</title>\n", escape(title));
     out += &format!("<desc id=\"desc\">{}</desc>\n", escape(description));
     out += &format!("<rect width=\"{width}\" height=\"{height}\" fill=\"white\"/>\n");
-    let kinds = graph
-        .arrows
-        .iter()
-        .map(|arrow| arrow.kind)
-        .chain([Kind::Plain]);
+    let kinds = graph.arrows.iter().map(|arrow| arrow.kind).chain([Kind::Plain]);
     for (route, kind) in sheet.routes.iter().zip(kinds) {
         arrow(&mut out, route, kind, if graph.is_path { 2.4 } else { 1.5 });
     }
@@ -59,43 +55,20 @@ fn arrow(out: &mut String, route: &Route, kind: Kind, line: f64) {
             let [first, second, end] = curve.map(point);
             path += &format!("C{first} {second} {end}");
         }
-        *out += &format!(
-            "<path d=\"{path}\" fill=\"none\" stroke=\"{colour}\" stroke-width=\"{line}\"/>\n"
-        );
+        *out += &format!("<path d=\"{path}\" fill=\"none\" stroke=\"{colour}\" stroke-width=\"{line}\"/>\n");
     }
     let (tip, tail) = (route.tip, route.tail);
     let (dx, dy) = ((tip.x - tail.x) / HEAD * 4.0, (tip.y - tail.y) / HEAD * 4.0);
-    let corners = [
-        tip,
-        Point {
-            x: tail.x - dy,
-            y: tail.y + dx,
-        },
-        Point {
-            x: tail.x + dy,
-            y: tail.y - dx,
-        },
-    ];
-    *out += &format!(
-        "<polygon points=\"{}\" fill=\"{colour}\"/>\n",
-        corners.map(point).join(" ")
-    );
+    let corners = [tip, Point { x: tail.x - dy, y: tail.y + dx }, Point { x: tail.x + dy, y: tail.y - dx }];
+    *out += &format!("<polygon points=\"{}\" fill=\"{colour}\"/>\n", corners.map(point).join(" "));
 }
 
 /// The line around a node: round ends if there is only its number in it.
 fn frame(out: &mut String, placed: &Placed, node: &Node) {
     let block = &placed.block;
-    let round = if node.is_bare() {
-        block.height / 2.0
-    } else {
-        10.0
-    };
+    let round = if node.is_bare() { block.height / 2.0 } else { 10.0 };
     let line = if node.emphasised { 3.0 } else { 1.3 };
-    let dots = if node.ellipsis {
-        " stroke-dasharray=\"2 4\""
-    } else {
-        ""
-    };
+    let dots = if node.ellipsis { " stroke-dasharray=\"2 4\"" } else { "" };
     *out += &format!(
         "<rect x=\"{}\" y=\"{}\" width=\"{}\" height=\"{}\" rx=\"{}\" fill=\"white\" \
          stroke=\"black\" stroke-width=\"{line}\"{dots}/>\n",
@@ -116,20 +89,9 @@ fn content(out: &mut String, placed: &Placed) {
     for tag_of in &placed.block.tags {
         tag(out, placed, tag_of);
     }
-    for Line {
-        x,
-        y,
-        text,
-        bold,
-        size,
-    } in &placed.block.lines
-    {
+    for Line { x, y, text, bold, size } in &placed.block.lines {
         let weight = if *bold { " font-weight=\"bold\"" } else { "" };
-        let size = if *size == LETTERS {
-            String::new()
-        } else {
-            format!(" font-size=\"{}\"", number(*size))
-        };
+        let size = if *size == LETTERS { String::new() } else { format!(" font-size=\"{}\"", number(*size)) };
         *out += &format!(
             "<text x=\"{}\" y=\"{}\"{weight}{size}>{}</text>\n",
             number(placed.x + x),

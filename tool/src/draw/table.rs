@@ -30,12 +30,7 @@ type Tags = Vec<(String, Kind)>;
 pub fn table(book: &Book, names: &Names, state: usize, listed: &Listed) -> Vec<Row> {
     let frame = book.frame();
     let mut rows = Vec::new();
-    for outcome in [
-        Outcome::Accept,
-        Outcome::Reject,
-        Outcome::Both,
-        Outcome::Unanswered,
-    ] {
+    for outcome in [Outcome::Accept, Outcome::Reject, Outcome::Both, Outcome::Unanswered] {
         let mut groups: BTreeMap<[Option<Place>; 2], Vec<usize>> = BTreeMap::new();
         let requests = 0..frame.requests();
         for request in requests.filter(|&request| book.outcome(state, request) == outcome) {

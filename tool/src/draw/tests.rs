@@ -47,10 +47,7 @@ fn line_points(sheet: &Sheet) -> Vec<Point> {
                     let s = 1.0 - t;
                     s * s * s * a + 3.0 * s * s * t * b + 3.0 * s * t * t * c + t * t * t * d
                 };
-                Point {
-                    x: mix(from.x, first.x, second.x, to.x),
-                    y: mix(from.y, first.y, second.y, to.y),
-                }
+                Point { x: mix(from.x, first.x, second.x, to.x), y: mix(from.y, first.y, second.y, to.y) }
             }));
             from = to;
         }
@@ -60,29 +57,19 @@ fn line_points(sheet: &Sheet) -> Vec<Point> {
 
 /// What is wrong with a layout, if anything.
 fn faults(sheet: &Sheet) -> Option<String> {
-    let placed: Vec<&Placed> = sheet
-        .boxes
-        .iter()
-        .chain(&sheet.labels)
-        .chain(&sheet.texts)
-        .collect();
+    let placed: Vec<&Placed> = sheet.boxes.iter().chain(&sheet.labels).chain(&sheet.texts).collect();
     for (number, one) in placed.iter().enumerate() {
         if let Some(other) = placed[..number].iter().find(|other| overlap(one, other)) {
             return Some(format!("{one:?} overlaps {other:?}"));
         }
-        let end = Point {
-            x: one.x + one.block.width,
-            y: one.y + one.block.height,
-        };
+        let end = Point { x: one.x + one.block.width, y: one.y + one.block.height };
         if !inside(sheet, Point { x: one.x, y: one.y }) || !inside(sheet, end) {
             return Some(format!("{one:?} is not within the picture"));
         }
     }
     for point in line_points(sheet) {
         if !inside(sheet, point) || placed.iter().any(|placed| holds(placed, point)) {
-            return Some(format!(
-                "a line at {point:?} runs through something or outside"
-            ));
+            return Some(format!("a line at {point:?} runs through something or outside"));
         }
     }
     None
@@ -90,11 +77,7 @@ fn faults(sheet: &Sheet) -> Option<String> {
 
 /// Checks the layout that is taken, and those in other directions.
 fn check(graph: &Graph) {
-    let sheet = sheet(
-        graph,
-        "A title that is not short at all",
-        &legend::legend(graph, false),
-    );
+    let sheet = sheet(graph, "A title that is not short at all", &legend::legend(graph, false));
     assert_eq!(faults(&sheet), None);
     let down = Arranged::new(graph, Direction::Down);
     let right = Arranged::new(graph, Direction::Right);
@@ -106,15 +89,7 @@ fn check(graph: &Graph) {
 fn check_book(book: &Book, path: Option<&[u8]>) {
     let names = Names::made_up(book.frame(), 0);
     for events in [true, false] {
-        check(&graph_of(
-            book,
-            &names,
-            &Options {
-                title: "",
-                events,
-                path,
-            },
-        ));
+        check(&graph_of(book, &names, &Options { title: "", events, path }));
     }
 }
 
@@ -153,10 +128,7 @@ fn histories() {
     let mut random = Random(4);
     for number in 0..100 {
         let book = random.book([10, 127][number % 2], [1, 10, 40][number % 3]);
-        check_book(
-            &book,
-            Some(&random.history(&book, [12, 253][number / 2 % 2])),
-        );
+        check_book(&book, Some(&random.history(&book, [12, 253][number / 2 % 2])));
     }
 }
 
@@ -173,17 +145,7 @@ fn folded_histories() {
 fn impossible_steps_end_a_history() {
     let book = &sample_books()[0];
     let names = Names::made_up(book.frame(), 0);
-    let picture_of = |path: &[u8]| {
-        picture(
-            book,
-            &names,
-            &Options {
-                title: "t",
-                events: true,
-                path: Some(path),
-            },
-        )
-    };
+    let picture_of = |path: &[u8]| picture(book, &names, &Options { title: "t", events: true, path: Some(path) });
     assert_eq!(picture_of(&[]), picture_of(&[255, 0]));
 }
 
@@ -192,15 +154,7 @@ fn names_are_escaped() {
     let book = &sample_books()[0];
     let mut names = Names::made_up(book.frame(), 0);
     names.events[0] = "<a & 'b' \"c\" \u{1}\u{202e}>".to_string();
-    let out = picture(
-        book,
-        &names,
-        &Options {
-            title: "<&>",
-            events: true,
-            path: None,
-        },
-    );
+    let out = picture(book, &names, &Options { title: "<&>", events: true, path: None });
     assert!(out.contains("&lt;a &amp; &#39;b&#39; &quot;c&quot; \u{fffd}\u{fffd}&gt;"));
     assert!(out.contains("<title id=\"title\">&lt;&amp;&gt;</title>"));
 }

@@ -4,10 +4,10 @@
 /// The widths of the ASCII characters from the blank on, in hundredths of the size:
 /// those of DejaVu Sans, rounded up.
 const ASCII: [u8; 95] = [
-    32, 41, 46, 84, 64, 96, 78, 28, 40, 40, 50, 84, 32, 37, 32, 34, 64, 64, 64, 64, 64, 64, 64, 64,
-    64, 64, 34, 34, 84, 84, 84, 54, 100, 69, 69, 70, 77, 64, 58, 78, 76, 30, 30, 66, 56, 87, 75,
-    79, 61, 79, 70, 64, 62, 74, 69, 99, 69, 62, 69, 40, 34, 40, 84, 50, 50, 62, 64, 55, 64, 62, 36,
-    64, 64, 28, 28, 58, 28, 98, 64, 62, 64, 64, 42, 53, 40, 64, 60, 82, 60, 60, 53, 64, 34, 64, 84,
+    32, 41, 46, 84, 64, 96, 78, 28, 40, 40, 50, 84, 32, 37, 32, 34, 64, 64, 64, 64, 64, 64, 64, 64, 64, 64, 34, 34, 84,
+    84, 84, 54, 100, 69, 69, 70, 77, 64, 58, 78, 76, 30, 30, 66, 56, 87, 75, 79, 61, 79, 70, 64, 62, 74, 69, 99, 69,
+    62, 69, 40, 34, 40, 84, 50, 50, 62, 64, 55, 64, 62, 36, 64, 64, 28, 28, 58, 28, 98, 64, 62, 64, 64, 42, 53, 40, 64,
+    60, 82, 60, 60, 53, 64, 34, 64, 84,
 ];
 
 /// The width of any other character, in hundredths of the size.
@@ -18,10 +18,7 @@ pub const BOLD: f64 = 1.27;
 
 /// The width of a text in letters of a size.
 pub fn width(text: &str, size: f64) -> f64 {
-    let hundredths: f64 = text
-        .chars()
-        .map(|letter| f64::from(hundredths(letter)))
-        .sum();
+    let hundredths: f64 = text.chars().map(|letter| f64::from(hundredths(letter))).sum();
     hundredths * size / 100.0
 }
 
@@ -32,10 +29,7 @@ pub fn bold_width(text: &str, size: f64) -> f64 {
 
 fn hundredths(letter: char) -> u8 {
     let place = (letter as usize).checked_sub(32);
-    place
-        .and_then(|place| ASCII.get(place))
-        .copied()
-        .unwrap_or(OTHER)
+    place.and_then(|place| ASCII.get(place)).copied().unwrap_or(OTHER)
 }
 
 /// The text in lines no wider than a width, broken at blanks, and within a word only
@@ -44,11 +38,7 @@ pub fn wrap(text: &str, size: f64, most: f64) -> Vec<String> {
     let mut lines = Vec::new();
     let mut line = String::new();
     for word in text.split(' ').flat_map(|word| pieces(word, size, most)) {
-        let longer = if line.is_empty() {
-            word.clone()
-        } else {
-            format!("{line} {word}")
-        };
+        let longer = if line.is_empty() { word.clone() } else { format!("{line} {word}") };
         if width(&longer, size) <= most || line.is_empty() {
             line = longer;
         } else {

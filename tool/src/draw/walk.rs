@@ -23,10 +23,7 @@ impl Walk {
     /// Follows codes from the start. The walk ends before the first step that is not
     /// possible.
     pub fn along(book: &Book, codes: &[u8]) -> Walk {
-        let mut walk = Walk {
-            states: vec![1],
-            codes: Vec::new(),
-        };
+        let mut walk = Walk { states: vec![1], codes: Vec::new() };
         let mut state = 1;
         for code in codes.iter().map(|&code| usize::from(code)) {
             if code >= book.frame().width() {
@@ -76,10 +73,7 @@ impl Walk {
             return (1, alone.clone());
         }
         let listed = common.iter().map(|(&code, sayings)| (code, sayings[0]));
-        let folded = Said {
-            marks: alone.marks.clone(),
-            listed: listed.collect(),
-        };
+        let folded = Said { marks: alone.marks.clone(), listed: listed.collect() };
         (count, folded)
     }
 

@@ -4,12 +4,21 @@
 use super::token::quoted;
 use crate::names::Names;
 
-/// `did you mean ..?` for a word that is nearly one of these, else nothing.
-pub fn did_you_mean<'a>(word: &str, candidates: impl IntoIterator<Item = &'a str>) -> String {
+/// `did you mean ..?` for a word that is nearly one of these names, else nothing.
+pub fn did_you_mean<'a>(word: &str, names: impl IntoIterator<Item = &'a str>) -> String {
+    nearest(word, names).map_or(String::new(), |name| format!("did you mean {}?", quoted(name)))
+}
+
+/// The same for words of the notation.
+pub fn did_you_mean_word(word: &str, words: &[&'static str]) -> String {
+    nearest(word, words.iter().copied()).map_or(String::new(), |word| format!("did you mean `{word}`?"))
+}
+
+fn nearest<'a>(word: &str, candidates: impl IntoIterator<Item = &'a str>) -> Option<&'a str> {
     let near = candidates.into_iter().map(|candidate| (distance(word, candidate), candidate));
     let allowed = if word.chars().count() < 5 { 1 } else { 2 };
     let nearest = near.filter(|&(distance, _)| distance <= allowed).min_by_key(|&(distance, _)| distance);
-    nearest.map_or(String::new(), |(_, candidate)| format!("did you mean {}?", quoted(candidate)))
+    nearest.map(|(_, candidate)| candidate)
 }
 
 /// The same as the end of a message.
@@ -34,7 +43,7 @@ pub fn of_other_field(names: &Names, field: usize, word: &str) -> String {
             };
             format!("{} is a value of the field {}; {how}", quoted(word), quoted(&names.fields[other].name))
         }
-        _ => did_you_mean(word, names.fields[field].values.iter().map(String::as_str).chain(["any"])),
+        _ => did_you_mean(word, names.fields[field].values.iter().map(String::as_str)),
     }
 }
 
@@ -62,7 +71,9 @@ mod tests {
 
     #[test]
     fn distances() {
-        for (one, other, number) in [("", "", 0), ("a", "", 1), ("reader", "Reader", 0), ("reader", "raeder", 2), ("copy", "copies", 3)] {
+        for (one, other, number) in
+            [("", "", 0), ("a", "", 1), ("reader", "Reader", 0), ("reader", "raeder", 2), ("copy", "copies", 3)]
+        {
             assert_eq!(distance(one, other), number, "{one} {other}");
             assert_eq!(distance(other, one), number, "{other} {one}");
         }

@@ -1,5 +1,7 @@
 //! What is wrong with a text, and where: the one message that its writer gets.
 
+use super::token::is_deceptive;
+
 /// The most columns of a line that are shown.
 const MOST_SHOWN: usize = 120;
 
@@ -33,11 +35,20 @@ impl Mistake {
             self.line,
             self.column,
             self.message,
-            shown.iter().collect::<String>().trim_end(),
+            shown.iter().map(|&letter| visible(letter)).collect::<String>().trim_end(),
             " ".repeat(cut.chars().count()),
             before.iter().map(blank_like).collect::<String>(),
             "^".repeat(width.max(1)),
         )
+    }
+}
+
+/// A character that acts on a terminal, or changes how others are shown, is shown
+/// as the sign for one that cannot be.
+fn visible(letter: char) -> char {
+    match letter != '\t' && (letter.is_control() || is_deceptive(letter)) {
+        true => char::REPLACEMENT_CHARACTER,
+        false => letter,
     }
 }
 

@@ -10,7 +10,7 @@ use crate::policy::{Change, Policy, Rule};
 /// The comments of a statement.
 #[derive(Clone, Debug, Default)]
 pub struct Notes {
-    /// Those on lines before it; an empty one is a blank line.
+    /// The lines before it, with their `#`; an empty one is a blank line.
     pub before: Vec<String>,
     /// The one behind it.
     pub behind: Option<String>,
@@ -61,7 +61,12 @@ pub fn parse(text: &str) -> Result<Text, Mistake> {
         statements.push((item, first, parser.last_line()));
     }
     let policy = parser.policy()?;
-    Ok(Text { policy, names: parser.names, rule_lines: parser.rule_lines, notes: place_comments(&statements, comments) })
+    Ok(Text {
+        policy,
+        names: parser.names,
+        rule_lines: parser.rule_lines,
+        notes: place_comments(&statements, comments),
+    })
 }
 
 impl Parser {
@@ -108,9 +113,8 @@ impl Parser {
         if let Kind::Bad(message) = &found.kind {
             return found.mistake(message.clone());
         }
-        let ends = matches!(found.kind, Kind::End) || is_statement(found);
         match self.last() {
-            Some(before) if ends && found.line > before.line => Mistake {
+            Some(before) if found.kind == Kind::End || is_statement(found) && found.line > before.line => Mistake {
                 line: before.line,
                 column: before.column + before.length,
                 length: 1,
@@ -139,10 +143,8 @@ impl Parser {
                 "expected {what}; `{0}` is a word of the notation, and as a name it is written \"{0}\"",
                 token.text
             ))),
-            Kind::Number(_) => Err(token.mistake(format!(
-                "expected {what}; a name of digits alone is written in quotes, \"{}\"",
-                token.text
-            ))),
+            Kind::Number(_) => Err(token
+                .mistake(format!("expected {what}; a name of digits alone is written in quotes, \"{}\"", token.text))),
             _ => Err(self.expected(what)),
         }
     }
@@ -161,7 +163,9 @@ impl Parser {
     /// The policy that has been read, whole.
     fn policy(&mut self) -> Result<Policy, Mistake> {
         if self.names.fields.is_empty() {
-            return Err(self.peek().mistake("expected a field: a policy has at least one, as in `field action = open, copy`".to_string()));
+            return Err(self.peek().mistake(
+                "expected a field: a policy has at least one, as in `field action = open, copy`".to_string(),
+            ));
         }
         let variables = self.names.variables.len();
         let says_starts = self.starts.iter().any(Option::is_some);
@@ -216,6 +220,9 @@ fn place_comments(statements: &[(Item, usize, usize)], comments: Vec<Comment>) -
             }
         };
         let notes = &mut placed[place].1;
+        if behind && comment.text.is_empty() {
+            continue;
+        }
         if behind && notes.behind.is_none() {
             notes.behind = Some(comment.text);
             continue;
@@ -223,7 +230,7 @@ fn place_comments(statements: &[(Item, usize, usize)], comments: Vec<Comment>) -
         if comment.blank_before {
             notes.before.push(String::new());
         }
-        notes.before.push(comment.text);
+        notes.before.push(format!("# {}", comment.text).trim_end().to_string());
         if comment.blank_after {
             notes.before.push(String::new());
         }

@@ -17,7 +17,7 @@ pub fn print(policy: &Policy, names: &Names, notes: &[(Item, Notes)]) -> String 
     page.rules(policy, names);
     page.events(policy, names);
     page.comments(Item::End);
-    page.text
+    page.text.trim_end().to_string() + "\n"
 }
 
 struct Page<'a> {
@@ -33,10 +33,10 @@ impl Page<'_> {
 
     /// The comments that stand before a statement.
     fn comments(&mut self, item: Item) {
-        for comment in self.notes(item).before {
-            match comment.is_empty() {
+        for line in self.notes(item).before {
+            match line.is_empty() {
                 true => self.blank_line(),
-                false => self.text.push_str(&format!("# {comment}\n")),
+                false => self.text.push_str(&format!("{line}\n")),
             }
         }
     }
@@ -137,7 +137,8 @@ pub fn rule_words(rule: &Rule, names: &Names) -> String {
 
 /// Whom a rule is for, when, and what it does.
 fn rule_parts(rule: &Rule, names: &Names) -> [String; 3] {
-    let who: Vec<String> = rule.masks.iter().zip(&names.fields).map(|(mask, field)| values(*mask, &field.values)).collect();
+    let who: Vec<String> =
+        rule.masks.iter().zip(&names.fields).map(|(mask, field)| values(*mask, &field.values)).collect();
     let tests: Vec<String> = rule
         .tests
         .iter()

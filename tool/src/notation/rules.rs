@@ -15,7 +15,7 @@ impl Parser {
             return Err(keyword.mistake(message.to_string()));
         }
         if number == MOST_RULES {
-            return Err(keyword.mistake(format!("a policy has at most {MOST_RULES} rules; this is one more")));
+            return Err(keyword.mistake(format!("expected at most {MOST_RULES} rules; this is one more")));
         }
         let masks = self.masks()?;
         let mut tests = vec![Test::default(); self.names.variables.len()];
@@ -59,7 +59,8 @@ impl Parser {
         let found = self.peek();
         let is_value = found.kind == Kind::Name && self.names.fields[field].values.contains(&found.text);
         if is_value || found.is("any") {
-            return self.expected("`,` before it");
+            let [before, after] = [field - 1, field].map(|field| quoted(&self.names.fields[field].name));
+            return self.expected(&format!("`,` between {before} and {after}"));
         }
         let or = if self.last().is_some_and(|last| last.is("any")) { "" } else { "`or`, or " };
         let what = format!("{or}`,` and {}", self.values_expected(field));
@@ -86,7 +87,7 @@ impl Parser {
                 return Err(self.expected_since(&self.values_expected(field), &why));
             };
             if mask & 1 << value != 0 {
-                return Err(name.mistake(format!("{} is there twice", name.shown())));
+                return Err(name.mistake(format!("expected another value; {} is there twice", name.shown())));
             }
             mask |= 1 << value;
             if !self.take_if("or") {
@@ -140,7 +141,10 @@ impl Parser {
         let number = self.number(1, MOST_NUMBER)?;
         let place = if below { &mut tests[variable].below } else { &mut tests[variable].at_least };
         if *place != 0 {
-            return Err(sign.mistake(format!("{} is compared by `{word}` before in this rule", name.shown())));
+            return Err(sign.mistake(format!(
+                "expected another test; {} is compared by `{word}` before in this rule",
+                name.shown()
+            )));
         }
         *place = number;
         Ok(())
@@ -170,7 +174,9 @@ impl Parser {
             false => format!("the number of a test is 1 to {MOST_NUMBER}"),
             true => {
                 let tests = [(">=", at_least), ("<", below)];
-                let tests = tests.iter().filter_map(|(sign, number)| number.map(|number| format!("{variable} {sign} {number}")));
+                let tests = tests
+                    .iter()
+                    .filter_map(|(sign, number)| number.map(|number| format!("{variable} {sign} {number}")));
                 format!("write `{}`", tests.collect::<Vec<String>>().join(" and "))
             }
         };
@@ -218,7 +224,7 @@ impl Parser {
             if self.take_if("level") {
                 let number = self.number(0, 255)?;
                 if level.replace(number).is_some() {
-                    return Err(token.mistake("the level has been said before in this rule".to_string()));
+                    return Err(token.mistake("expected one level; it has been said before in this rule".to_string()));
                 }
             } else {
                 self.change(&mut changes, "`level` or ")?;
@@ -239,12 +245,14 @@ impl Parser {
             return Err(self.expected(&format!("`{variable_name} + 1` or `{variable_name} to 0`")));
         };
         if self.peek().kind != Kind::Number(wanted) {
-            let (what, why) = if wanted == 1 { ("`1`", "a change adds one") } else { ("`0`", "a change sets to zero") };
-            return Err(self.expected_since(what, why));
+            let (what, why) =
+                if wanted == 1 { ("+ 1", "a change adds one") } else { ("to 0", "a change sets to zero") };
+            return Err(self.expected_since(&format!("`{variable_name} {what}`"), why));
         }
         self.take();
         if changes[variable] != Change::Nothing {
-            return Err(name.mistake(format!("{} is changed before in this statement", name.shown())));
+            return Err(name
+                .mistake(format!("expected another variable; {} is changed before in this statement", name.shown())));
         }
         changes[variable] = change;
         Ok(variable)

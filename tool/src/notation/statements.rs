@@ -1,7 +1,7 @@
 //! The statements that declare events, fields and variables, say what events
 //! change, and name the version; `rule` stands in `rules.rs`.
 
-use super::hints::{closest, did_you_mean};
+use super::hints::{closest, did_you_mean_word};
 use super::parse::Parser;
 use super::token::{list, quoted, Kind, Token};
 use super::Mistake;
@@ -49,7 +49,7 @@ impl Parser {
         if !self.goes_on() {
             let why = match found.text.starts_with('/') {
                 true => "`#` begins a comment".to_string(),
-                false => did_you_mean(&found.text, STATEMENTS),
+                false => did_you_mean_word(&found.text, &STATEMENTS),
             };
             return self.expected_since("`events`, `field`, `variables`, `rule` or `on`", &why);
         }
@@ -67,7 +67,7 @@ impl Parser {
         loop {
             let name = self.name("an event's name")?;
             if self.names.events.len() == MOST_EVENTS {
-                return Err(name.mistake(format!("a policy has at most {MOST_EVENTS} events; this is one more")));
+                return Err(name.mistake(format!("expected at most {MOST_EVENTS} events; this is one more")));
             }
             self.not_among(&name, &self.names.events, "an event")?;
             for field in &self.names.fields {
@@ -84,10 +84,12 @@ impl Parser {
         let name = self.name("the field's name")?;
         let fields = self.names.fields.len();
         if !self.rules.is_empty() {
-            return Err(name.mistake("expected no further field: fields are declared before the first rule".to_string()));
+            return Err(
+                name.mistake("expected no further field: fields are declared before the first rule".to_string())
+            );
         }
         if fields == MOST_FIELDS {
-            return Err(name.mistake(format!("a policy has at most {MOST_FIELDS} fields; this is one more")));
+            return Err(name.mistake(format!("expected at most {MOST_FIELDS} fields; this is one more")));
         }
         let declared: Vec<String> = self.names.fields.iter().map(|field| field.name.clone()).collect();
         self.not_among(&name, &declared, "a field")?;
@@ -101,7 +103,9 @@ impl Parser {
         if requests > MOST_REQUESTS {
             let factors: Vec<String> = counts.iter().map(usize::to_string).collect();
             let product = factors.join(" × ");
-            return Err(name.mistake(format!("the values make {product} = {requests} requests; there may be {MOST_REQUESTS}")));
+            return Err(name.mistake(format!(
+                "expected at most {MOST_REQUESTS} requests; with this field there are {product} = {requests}"
+            )));
         }
         Ok(Item::Field(fields))
     }
@@ -111,7 +115,7 @@ impl Parser {
         loop {
             let name = self.name(&format!("a value of the field {}", quoted(&field.text)))?;
             if values.len() == MOST_VALUES {
-                return Err(name.mistake(format!("a field has at most {MOST_VALUES} values; this is one more")));
+                return Err(name.mistake(format!("expected at most {MOST_VALUES} values of a field; this is one more")));
             }
             self.not_among(&name, &values, "a value of this field")?;
             self.not_among(&name, &self.names.events, "an event")?;
@@ -126,14 +130,17 @@ impl Parser {
         loop {
             let name = self.name("a variable's name")?;
             if self.names.variables.len() == MOST_VARIABLES {
-                return Err(name.mistake(format!("a policy has at most {MOST_VARIABLES} variables; this is one more")));
+                return Err(name.mistake(format!("expected at most {MOST_VARIABLES} variables; this is one more")));
             }
             self.not_among(&name, &self.names.variables, "a variable")?;
             self.names.variables.push(name.text);
             let from = self.peek().clone();
             let start = match self.take_if("from") {
                 true if self.version == Some(1) => {
-                    return Err(from.mistake("a file of version 1 has no starting values: leave `version 1` out, or this".to_string()));
+                    return Err(from.mistake(
+                        "expected no starting value, since the text says `version 1`; leave one of the two out"
+                            .to_string(),
+                    ));
                 }
                 true => Some(self.number(0, MOST_NUMBER)?),
                 false => None,
@@ -146,12 +153,18 @@ impl Parser {
     }
 
     fn file_version(&mut self, keyword: &Token) -> Result<Item, Mistake> {
-        let version = self.number(1, 2)?;
+        let version = match self.peek().kind {
+            Kind::Number(1 | 2) => self.number(1, 2)?,
+            _ => return Err(self.expected("`1` or `2`")),
+        };
         if self.version.is_some() {
-            return Err(keyword.mistake("the version has been said before".to_string()));
+            return Err(keyword.mistake("expected the version once; it has been said before".to_string()));
         }
         if version == 1 && self.starts.iter().any(Option::is_some) {
-            return Err(keyword.mistake("a file of version 1 has no starting values, and a variable above has one".to_string()));
+            return Err(keyword.mistake(
+                "expected no `version 1`, since a variable above has a starting value, which version 1 has not"
+                    .to_string(),
+            ));
         }
         self.version = Some(version);
         Ok(Item::Version)
@@ -162,6 +175,9 @@ impl Parser {
         let mut changes = vec![Change::Nothing; self.names.variables.len()];
         let mut changed = Vec::new();
         loop {
+            if self.peek().is(",") {
+                return Err(self.expected_since("a change", "each event has its own `on`"));
+            }
             if self.peek().is("accept") || self.peek().is("reject") {
                 return Err(self.expected_since("a change", "an event changes variables; decisions stand in rules"));
             }
@@ -186,7 +202,10 @@ impl Parser {
             return Err(name.mistake(format!("expected {what}, found {}{why}", name.shown())));
         };
         match self.changes.iter().any(|(other, _)| *other == event) {
-            true => Err(name.mistake(format!("what {} changes has been said before", name.shown()))),
+            true => Err(name.mistake(format!(
+                "expected one `on` for an event; what {} changes has been said before",
+                name.shown()
+            ))),
             false => Ok(event),
         }
     }

@@ -30,7 +30,7 @@ pub fn parse_steps(names: &Names, words: &[String]) -> Result<Vec<u8>, String> {
 pub fn parse_request(names: &Names, words: &[String]) -> Result<(usize, Vec<String>), String> {
     let mut reader = Reader::new(names, words)?;
     let request = match reader.peek().kind {
-        Kind::Number(number) => {
+        Kind::Number(number) if !names.has(&reader.peek().text) => {
             reader.at += 1;
             number as usize
         }
@@ -46,23 +46,20 @@ struct Reader<'a> {
     at: usize,
 }
 
-/// Whether a word is an event's or a value's name.
-fn is_name(names: &Names, word: &str) -> bool {
-    let values = names.fields.iter().flat_map(|field| &field.values);
-    names.events.iter().chain(values).any(|name| name == word)
-}
-
 impl Reader<'_> {
     /// Each argument is split by itself, so that a quote does not go beyond it. One
     /// that is a name as a whole needs no quotes.
     fn new<'a>(names: &'a Names, words: &[String]) -> Result<Reader<'a>, String> {
         let mut all = Vec::new();
         for word in words {
-            if is_name(names, word) {
+            if names.has(word) && !word.bytes().all(|byte| byte.is_ascii_digit()) {
                 all.push(Token { kind: Kind::Name, text: word.clone(), line: 1, column: 1, length: 1 });
                 continue;
             }
-            let (mut part, _) = tokens(word);
+            let (mut part, comments) = tokens(word);
+            if !comments.is_empty() {
+                return Err(format!("in `{word}`: a name with `#` stands in quotes"));
+            }
             let last = part.pop();
             if let Some(Token { kind: Kind::Bad(message), .. }) = last {
                 return Err(format!("in `{word}`: {message}"));
@@ -88,7 +85,7 @@ impl Reader<'_> {
     /// How many times a step is taken. A name is read as a name.
     fn times(&mut self) -> Result<usize, String> {
         let token = self.peek();
-        if token.kind == Kind::Name && token.text == "twice" && !is_name(self.names, "twice") {
+        if token.kind == Kind::Name && token.text == "twice" && !self.names.has("twice") {
             self.at += 1;
             return Ok(2);
         }
@@ -116,10 +113,13 @@ impl Reader<'_> {
     fn step(&mut self) -> Result<usize, String> {
         let token = self.peek().clone();
         let frame = self.names.frame();
-        if let Kind::Number(number) = token.kind {
-            return Err(format!("expected a step; found `{number}`: how often a step is taken is said as `{number} times` behind it, and a step by its code as `code {number}`"));
+        if let (Kind::Number(number), false) = (&token.kind, self.names.has(&token.text)) {
+            return Err(format!(
+                "expected a step; found `{number}`: how often a step is taken is said as `{number} times` behind it, \
+                 and a step by its code as `code {number}`"
+            ));
         }
-        if token.kind == Kind::Name && token.text == "code" && !is_name(self.names, "code") {
+        if token.kind == Kind::Name && token.text == "code" && !self.names.has("code") {
             return self.code();
         }
         if token.kind != Kind::End {

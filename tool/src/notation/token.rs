@@ -4,8 +4,21 @@ use super::Mistake;
 
 /// The words of the notation. As a name, such a word stands in quotes.
 pub const RESERVED: [&str; 15] = [
-    "accept", "and", "any", "events", "field", "from", "level", "on", "or", "reject", "rule", "to", "variables",
-    "version", "when",
+    "accept",
+    "and",
+    "any",
+    "events",
+    "field",
+    "from",
+    "level",
+    "on",
+    "or",
+    "reject",
+    "rule",
+    "to",
+    "variables",
+    "version",
+    "when",
 ];
 
 /// The most characters of a name.
@@ -97,8 +110,13 @@ fn in_word(letter: char) -> bool {
 
 /// Characters that change how others are shown, so that a line would not say what
 /// it seems to say.
-fn is_deceptive(letter: char) -> bool {
+pub fn is_deceptive(letter: char) -> bool {
     matches!(u32::from(letter), 0x061C | 0x200E | 0x200F | 0x202A..=0x202E | 0x2066..=0x2069 | 0xFEFF)
+}
+
+/// Whether a character may stand nowhere in a text, not even in a comment.
+fn has_no_place(letter: char) -> bool {
+    is_deceptive(letter) || letter.is_control() && !letter.is_whitespace()
 }
 
 /// Splits a text. The last token is the end, or one that is no word.
@@ -142,13 +160,18 @@ fn comment_at(letters: &[char]) -> Option<usize> {
 fn split_line(letters: &[char], line: usize, tokens: &mut Vec<Token>) -> bool {
     let mut at = 0;
     while at < letters.len() {
-        if is_deceptive(letters[at]) || letters[at].is_control() && !letters[at].is_whitespace() {
+        if has_no_place(letters[at]) {
             let code = u32::from(letters[at]);
-            tokens.push(bad(line, at, 1, format!("the character U+{code:04X}, which is not shown, has no place in a text")));
+            tokens.push(bad(
+                line,
+                at,
+                1,
+                format!("the character U+{code:04X}, which is not shown, has no place in a text"),
+            ));
             return true;
         }
         if letters[at] == '#' {
-            match letters[at..].iter().position(|&letter| is_deceptive(letter)) {
+            match letters[at..].iter().position(|&letter| has_no_place(letter)) {
                 None => return false,
                 Some(after) => at += after,
             }
@@ -184,12 +207,18 @@ fn one_token(letters: &[char], at: usize, line: usize) -> Token {
     }
     let length = letters[at..].iter().take_while(|&&letter| in_word(letter)).count();
     let text: String = letters[at..at + length].iter().collect();
+    if length > MOST_LETTERS {
+        return bad(
+            line,
+            at,
+            length,
+            format!("a name or number has at most {MOST_LETTERS} characters; this one has {length}"),
+        );
+    }
     let kind = if text.bytes().all(|byte| byte.is_ascii_digit()) {
         Kind::Number(text.parse().unwrap_or(u32::MAX))
     } else if RESERVED.contains(&text.as_str()) {
         Kind::Reserved
-    } else if length > MOST_LETTERS {
-        return bad(line, at, length, format!("a name has at most {MOST_LETTERS} characters; this one has {length}"));
     } else {
         Kind::Name
     };

@@ -15,24 +15,17 @@ pub enum Value {
 
 /// Reads a text that is one value.
 pub fn read(text: &str) -> Value {
-    let mut reader = Reader {
-        rest: text.chars().peekable(),
-    };
+    let mut reader = Reader { rest: text.chars().peekable() };
     let value = reader.value();
     reader.blanks();
-    assert_eq!(
-        reader.rest.next(),
-        None,
-        "something after the value of {text}"
-    );
+    assert_eq!(reader.rest.next(), None, "something after the value of {text}");
     value
 }
 
 impl Value {
     /// A member of an object, which must be there.
     pub fn get(&self, name: &str) -> &Value {
-        self.find(name)
-            .unwrap_or_else(|| panic!("no `{name}` in {self:?}"))
+        self.find(name).unwrap_or_else(|| panic!("no `{name}` in {self:?}"))
     }
 
     /// A member of an object, if it is there.
@@ -40,10 +33,7 @@ impl Value {
         let Value::Object(members) = self else {
             panic!("no object: {self:?}");
         };
-        members
-            .iter()
-            .find(|(other, _)| other == name)
-            .map(|(_, value)| value)
+        members.iter().find(|(other, _)| other == name).map(|(_, value)| value)
     }
 
     pub fn list(&self) -> &[Value] {
@@ -74,10 +64,7 @@ impl Value {
 
     /// The members `name` of a list of objects.
     pub fn each(&self, name: &str) -> Vec<usize> {
-        self.list()
-            .iter()
-            .map(|value| value.get(name).number())
-            .collect()
+        self.list().iter().map(|value| value.get(name).number()).collect()
     }
 }
 
@@ -87,11 +74,7 @@ struct Reader<'a> {
 
 impl Reader<'_> {
     fn blanks(&mut self) {
-        while self
-            .rest
-            .next_if(|letter| " \t\r\n".contains(*letter))
-            .is_some()
-        {}
+        while self.rest.next_if(|letter| " \t\r\n".contains(*letter)).is_some() {}
     }
 
     fn take(&mut self, expected: &str) {

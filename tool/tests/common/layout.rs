@@ -29,27 +29,15 @@ struct Statement {
 
 /// Writes the policy in some layout, its statements in some order.
 pub fn odd_text(policy: &Policy, names: &Names, random: &mut Random) -> Odd {
-    let mut left = Statements {
-        policy,
-        names,
-        random,
-    }
-    .all();
+    let mut left = Statements { policy, names, random }.all();
     let mut written: Counts = [0; 4];
-    let mut odd = Odd {
-        text: String::new(),
-        comments: Vec::new(),
-        rule_lines: Vec::new(),
-    };
+    let mut odd = Odd { text: String::new(), comments: Vec::new(), rule_lines: Vec::new() };
     let mut gaps = Gaps::new(random);
     gaps.write(&mut odd, random);
     while !left.is_empty() {
         let is_ready = |place: &usize| {
             let needs: &Counts = &left[*place].needs;
-            needs
-                .iter()
-                .zip(&written)
-                .all(|(needs, written)| needs <= written)
+            needs.iter().zip(&written).all(|(needs, written)| needs <= written)
         };
         let ready: Vec<usize> = (0..left.len()).filter(is_ready).collect();
         let next = left.remove(*random.pick(&ready));
@@ -83,40 +71,23 @@ impl Statements<'_> {
     fn all(&mut self) -> Vec<Statement> {
         let (policy, names) = (self.policy, self.names);
         let starts = policy.version == Version::Two;
-        let says_starts =
-            starts && (policy.starts.iter().any(|&start| start > 0) || self.random.chance(1, 2));
-        let events: Vec<Vec<String>> = names
-            .events
-            .iter()
-            .map(|name| vec![self.name(name)])
-            .collect();
+        let says_starts = starts && (policy.starts.iter().any(|&start| start > 0) || self.random.chance(1, 2));
+        let events: Vec<Vec<String>> = names.events.iter().map(|name| vec![self.name(name)]).collect();
         let variables: Vec<Vec<String>> = (names.variables.iter().zip(&policy.starts))
-            .map(
-                |(name, &start)| match says_starts && (start > 0 || self.random.chance(2, 3)) {
-                    true => vec![self.name(name), "from".into(), start.to_string()],
-                    false => vec![self.name(name)],
-                },
-            )
+            .map(|(name, &start)| match says_starts && (start > 0 || self.random.chance(2, 3)) {
+                true => vec![self.name(name), "from".into(), start.to_string()],
+                false => vec![self.name(name)],
+            })
             .collect();
         let needs_version = starts && !variables.iter().any(|words| words.len() > 1);
         let mut all = self.lists("events", EVENTS, &events);
         all.extend(self.lists("variables", VARIABLES, &variables));
         all.extend((0..names.fields.len()).map(|field| self.field(field)));
-        all.extend(
-            policy
-                .rules
-                .iter()
-                .enumerate()
-                .map(|(number, rule)| self.rule(number, rule)),
-        );
+        all.extend(policy.rules.iter().enumerate().map(|(number, rule)| self.rule(number, rule)));
         all.extend((0..policy.events.len()).filter_map(|event| self.on(event)));
         if needs_version || self.random.chance(1, 4) {
             let number = if starts { "2" } else { "1" };
-            all.push(Statement {
-                words: vec!["version".into(), number.into()],
-                needs: [0; 4],
-                adds: [0; 4],
-            });
+            all.push(Statement { words: vec!["version".into(), number.into()], needs: [0; 4], adds: [0; 4] });
         }
         all
     }
@@ -152,24 +123,15 @@ impl Statements<'_> {
 
     fn field(&mut self, number: usize) -> Statement {
         let field = &self.names.fields[number];
-        let values: Vec<Vec<String>> = field
-            .values
-            .iter()
-            .map(|name| vec![self.name(name)])
-            .collect();
+        let values: Vec<Vec<String>> = field.values.iter().map(|name| vec![self.name(name)]).collect();
         let mut words = vec!["field".into(), self.name(&field.name), "=".into()];
         words.extend(values.join(&",".to_string()));
-        Statement {
-            words,
-            needs: [0, number, 0, 0],
-            adds: [0, 1, 0, 0],
-        }
+        Statement { words, needs: [0, number, 0, 0], adds: [0, 1, 0, 0] }
     }
 
     fn rule(&mut self, number: usize, rule: &Rule) -> Statement {
-        let masks: Vec<Vec<String>> = (0..rule.masks.len())
-            .map(|field| self.values(field, rule.masks[field]))
-            .collect();
+        let masks: Vec<Vec<String>> =
+            (0..rule.masks.len()).map(|field| self.values(field, rule.masks[field])).collect();
         let mut words = vec!["rule".to_string()];
         words.extend(masks.join(&",".to_string()));
         let tests = self.tests(rule);
@@ -187,36 +149,23 @@ impl Statements<'_> {
             words.push(",".into());
             words.extend(part);
         }
-        let last = |variable: &usize| {
-            rule.changes[*variable] != Change::Keep || rule.tests[*variable] != Default::default()
-        };
-        let variables = (0..rule.changes.len())
-            .rev()
-            .find(last)
-            .map_or(0, |last| last + 1);
+        let last =
+            |variable: &usize| rule.changes[*variable] != Change::Keep || rule.tests[*variable] != Default::default();
+        let variables = (0..rule.changes.len()).rev().find(last).map_or(0, |last| last + 1);
         let mut needs = [0; 4];
         (needs[FIELDS], needs[VARIABLES], needs[RULES]) = (rule.masks.len(), variables, number);
-        Statement {
-            words,
-            needs,
-            adds: [0, 0, 0, 1],
-        }
+        Statement { words, needs, adds: [0, 0, 0, 1] }
     }
 
     /// The values of a mask in some order; all of them are often `any`.
     fn values(&mut self, field: usize, mask: u16) -> Vec<String> {
         let values = &self.names.fields[field].values;
-        let mut through: Vec<usize> = (0..values.len())
-            .filter(|value| mask >> value & 1 == 1)
-            .collect();
+        let mut through: Vec<usize> = (0..values.len()).filter(|value| mask >> value & 1 == 1).collect();
         if through.len() == values.len() && self.random.chance(3, 4) {
             return vec!["any".into()];
         }
         self.random.shuffle(&mut through);
-        let through: Vec<Vec<String>> = through
-            .iter()
-            .map(|&value| vec![self.name(&values[value])])
-            .collect();
+        let through: Vec<Vec<String>> = through.iter().map(|&value| vec![self.name(&values[value])]).collect();
         through.join(&"or".to_string())
     }
 
@@ -252,11 +201,7 @@ impl Statements<'_> {
         self.random.shuffle(&mut parts);
         let mut words = vec!["on".into(), self.name(&self.names.events[event])];
         words.extend(parts.join(&",".to_string()));
-        Some(Statement {
-            words,
-            needs: [event + 1, 0, variables, 0],
-            adds: [0; 4],
-        })
+        Some(Statement { words, needs: [event + 1, 0, variables, 0], adds: [0; 4] })
     }
 }
 
@@ -268,22 +213,11 @@ struct Gaps {
 }
 
 /// What a comment says after its number.
-const COMMENTS: [&str; 7] = [
-    "",
-    ": \"quoted",
-    " # twice",
-    ", rule any accept",
-    " é 館 🗝",
-    " a  b",
-    " \\ \t ' \u{301}",
-];
+const COMMENTS: [&str; 7] = ["", ": \"quoted", " # twice", ", rule any accept", " é 館 🗝", " a  b", " \\ \t ' \u{301}"];
 
 impl Gaps {
     fn new(random: &mut Random) -> Gaps {
-        Gaps {
-            line_end: if random.chance(1, 3) { "\r\n" } else { "\n" },
-            broken: random.between(1, 12),
-        }
+        Gaps { line_end: if random.chance(1, 3) { "\r\n" } else { "\n" }, broken: random.between(1, 12) }
     }
 
     /// What stands before a word; between two words and numbers it is not empty.
@@ -317,11 +251,7 @@ impl Gaps {
             true => String::new(),
             false => format!("note {}.{}", odd.comments.len(), random.pick(&COMMENTS)),
         };
-        odd.text.push_str(&format!(
-            "{}{comment}{}",
-            random.pick(&["#", "# ", "#\t"]),
-            self.line_end
-        ));
+        odd.text.push_str(&format!("{}{comment}{}", random.pick(&["#", "# ", "#\t"]), self.line_end));
         odd.comments.push(comment);
     }
 }

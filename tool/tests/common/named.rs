@@ -83,9 +83,7 @@ pub fn draw_name(random: &mut Random) -> String {
         3 | 4 => random.pick(&QUOTED).to_string(),
         5 => letters(random, &['a', 'b', 'é', '0', '-', '_'], 64),
         6 => letters(random, &['a', '館', '#', '=', ',', '0', '\''], 64),
-        _ => (0..random.between(1, 3))
-            .map(|_| (b'a' + random.below(26) as u8) as char)
-            .collect(),
+        _ => (0..random.between(1, 3)).map(|_| (b'a' + random.below(26) as u8) as char).collect(),
     }
 }
 
@@ -107,11 +105,7 @@ pub fn draw_names(frame: &Frame, variables: usize, random: &mut Random) -> Names
         let values = several(count, &events, random);
         Field { name, values }
     });
-    Names {
-        fields: fields.collect(),
-        variables: several(variables, &[], random),
-        events,
-    }
+    Names { fields: fields.collect(), variables: several(variables, &[], random), events }
 }
 
 /// So many names, no two alike and none of those taken.

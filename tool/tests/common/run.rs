@@ -48,16 +48,8 @@ pub fn run(words: &[&str], input: &[u8]) -> Ran {
 /// Runs a line of the shell in which `$TOOL` is the tool, in a folder.
 pub fn shell(line: &str, folder: &Folder) -> Ran {
     let mut command = Command::new("sh");
-    command
-        .args(["-c", line])
-        .env("TOOL", TOOL)
-        .stdin(Stdio::null());
-    Ran::of(
-        command
-            .current_dir(&folder.path)
-            .output()
-            .expect("the shell runs"),
-    )
+    command.args(["-c", line]).env("TOOL", TOOL).stdin(Stdio::null());
+    Ran::of(command.current_dir(&folder.path).output().expect("the shell runs"))
 }
 
 /// A folder of its own for a test, empty at first.
@@ -91,9 +83,7 @@ impl Folder {
     pub fn list(&self) -> Vec<String> {
         let entries = fs::read_dir(&self.path).expect("a folder");
         let name = |entry: std::io::Result<fs::DirEntry>| entry.expect("an entry").file_name();
-        let mut names: Vec<String> = entries
-            .map(|entry| name(entry).into_string().expect("a plain name"))
-            .collect();
+        let mut names: Vec<String> = entries.map(|entry| name(entry).into_string().expect("a plain name")).collect();
         names.sort();
         names
     }

@@ -25,48 +25,25 @@ pub struct Subject {
 impl Subject {
     /// The subject with this number, of each sort in turn, as a file.
     pub fn new(number: u64, folder: &Folder) -> Subject {
-        let kind = [
-            "policy", "text", "book", "policy", "text", "book", "book", "book",
-        ][number as usize % 8];
+        let kind = ["policy", "text", "book", "policy", "text", "book", "book", "book"][number as usize % 8];
         let (bytes, input) = match number % 8 {
             2 => (generate::book(number), format!("generate book {number}")),
-            5 => (
-                generate::damaged_book(number),
-                format!("generate damaged-book {number}"),
-            ),
-            6 => (
-                generate::late_outcome_book(number),
-                format!("generate late-outcome-book {number}"),
-            ),
-            7 => (
-                generate::late_finding_book(number),
-                format!("generate late-finding-book {number}"),
-            ),
+            5 => (generate::damaged_book(number), format!("generate damaged-book {number}")),
+            6 => (generate::late_outcome_book(number), format!("generate late-outcome-book {number}")),
+            7 => (generate::late_finding_book(number), format!("generate late-finding-book {number}")),
             rest => policy_file(number / 8 * 4 + rest - rest / 3),
         };
         Subject::of(kind, bytes, input, number, folder)
     }
 
     /// These bytes as a file; as text, if they are to be one and have one.
-    pub fn of(
-        kind: &'static str,
-        bytes: Vec<u8>,
-        input: String,
-        number: u64,
-        folder: &Folder,
-    ) -> Subject {
+    pub fn of(kind: &'static str, bytes: Vec<u8>, input: String, number: u64, folder: &Folder) -> Subject {
         let read = Policy::decode(&bytes);
         if let (Ok(policy), "text") = (&read, kind) {
             let mut random = Random::new(number, "names");
             let names = draw_names(&policy.frame, policy.starts.len(), &mut random);
             let file = folder.file(&format!("{number}"), print(policy, &names, &[]));
-            return Subject {
-                file,
-                input,
-                kind,
-                bytes,
-                names,
-            };
+            return Subject { file, input, kind, bytes, names };
         }
         let names = match (&read, book::read(&bytes)) {
             (Ok(policy), _) => Names::made_up(&policy.frame, policy.starts.len()),
@@ -75,13 +52,7 @@ impl Subject {
         };
         let file = folder.file(&format!("{number}"), &bytes);
         let kind = if kind == "text" { "policy" } else { kind };
-        Subject {
-            file,
-            input,
-            kind,
-            bytes,
-            names,
-        }
+        Subject { file, input, kind, bytes, names }
     }
 
     /// The book that the reference builds or reads, or the number of its refusal.
@@ -107,9 +78,7 @@ impl Subject {
     pub fn request(&self, book: &Book, request: usize) -> String {
         let values = book.frame.values_of(request);
         let fields = self.names.fields.iter().zip(values);
-        let names: Vec<String> = fields
-            .map(|(field, value)| quoted(&field.values[value]))
-            .collect();
+        let names: Vec<String> = fields.map(|(field, value)| quoted(&field.values[value])).collect();
         names.join(" ")
     }
 
@@ -133,17 +102,11 @@ fn quoted(name: &str) -> String {
 }
 
 fn frame(book: &Book) -> policybook::frame::Frame {
-    policybook::frame::Frame {
-        events: book.frame.events,
-        counts: book.frame.counts.clone(),
-    }
+    policybook::frame::Frame { events: book.frame.events, counts: book.frame.counts.clone() }
 }
 
 /// The files with these numbers that have a book.
-pub fn with_books(
-    numbers: std::ops::Range<u64>,
-    folder: &Folder,
-) -> impl Iterator<Item = (u64, Subject, Book)> + '_ {
+pub fn with_books(numbers: std::ops::Range<u64>, folder: &Folder) -> impl Iterator<Item = (u64, Subject, Book)> + '_ {
     numbers.filter_map(|number| {
         let subject = Subject::new(number, folder);
         let book = subject.book().ok()?;
@@ -156,9 +119,7 @@ pub fn walk(book: &Book, random: &mut Random) -> Vec<(u8, usize)> {
     let mut state = 1;
     let mut steps = Vec::new();
     for _ in 0..random.below(40) {
-        let possible: Vec<usize> = (0..book.frame.width())
-            .filter(|&code| book.entry(state, code) != 0)
-            .collect();
+        let possible: Vec<usize> = (0..book.frame.width()).filter(|&code| book.entry(state, code) != 0).collect();
         if possible.is_empty() {
             break;
         }

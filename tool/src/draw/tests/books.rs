@@ -8,15 +8,10 @@ const COUNTS: [&[usize]; 6] = [&[1], &[3], &[2, 2], &[2, 1, 3], &[2, 2, 1, 2], &
 
 /// The books of the samples.
 pub fn sample_books() -> Vec<Book> {
-    let lines = include_str!("../sample_books.txt")
-        .lines()
-        .filter(|line| !line.starts_with('#'));
-    let hex = lines
-        .filter_map(|line| line.split_once(' '))
-        .map(|(_, hex)| hex);
+    let lines = include_str!("../sample_books.txt").lines().filter(|line| !line.starts_with('#'));
+    let hex = lines.filter_map(|line| line.split_once(' ')).map(|(_, hex)| hex);
     let byte = |hex: &str, at: usize| u8::from_str_radix(&hex[at..at + 2], 16).unwrap();
-    hex.map(|hex| Book::new((0..hex.len()).step_by(2).map(|at| byte(hex, at)).collect()))
-        .collect()
+    hex.map(|hex| Book::new((0..hex.len()).step_by(2).map(|at| byte(hex, at)).collect())).collect()
 }
 
 /// Pseudo-random numbers (a linear congruence, its upper bits).
@@ -24,10 +19,7 @@ pub struct Random(pub u64);
 
 impl Random {
     pub fn below(&mut self, bound: usize) -> usize {
-        self.0 = self
-            .0
-            .wrapping_mul(6_364_136_223_846_793_005)
-            .wrapping_add(1_442_695_040_888_963_407);
+        self.0 = self.0.wrapping_mul(6_364_136_223_846_793_005).wrapping_add(1_442_695_040_888_963_407);
         (self.0 >> 33) as usize % bound
     }
 
@@ -36,10 +28,7 @@ impl Random {
     pub fn book(&mut self, most_states: usize, leaving: usize) -> Book {
         // The last frame makes large tables: only in small books.
         let choice = self.below(if most_states > 5 { 5 } else { 6 });
-        let frame = Frame {
-            events: self.below(4),
-            counts: COUNTS[choice].to_vec(),
-        };
+        let frame = Frame { events: self.below(4), counts: COUNTS[choice].to_vec() };
         let states = 1 + self.below(most_states);
         book(&frame, states, |state, code| match self.below(100) {
             share if share < leaving => 1 + self.below(states),
@@ -53,10 +42,7 @@ impl Random {
     /// way, the last one to the next.
     pub fn counting(&mut self) -> Book {
         let choice = self.below(4);
-        let frame = Frame {
-            events: self.below(4),
-            counts: COUNTS[choice].to_vec(),
-        };
+        let frame = Frame { events: self.below(4), counts: COUNTS[choice].to_vec() };
         let half = 4 + self.below(20);
         let ways: Vec<usize> = (0..frame.width()).map(|_| self.below(7)).collect();
         book(&frame, 2 * half, |state, code| {
@@ -80,9 +66,8 @@ impl Random {
         let mut state = 1;
         let mut codes = Vec::new();
         for _ in 0..self.below(most + 1) {
-            let possible: Vec<(usize, usize)> = (0..book.frame().width())
-                .filter_map(|code| Some((code, book.next(state, code)?)))
-                .collect();
+            let possible: Vec<(usize, usize)> =
+                (0..book.frame().width()).filter_map(|code| Some((code, book.next(state, code)?))).collect();
             let Some(&(code, next)) = possible.get(self.below(possible.len().max(1))) else {
                 break;
             };

@@ -149,9 +149,7 @@ fn samples_and_random_books() {
     let mut random = Random(6);
     let mut seen = Seen::default();
     let mut books = sample_books();
-    books.extend(
-        (0..60).map(|number| random.book([5, 12, 127][number % 3], [1, 10, 40][number % 3])),
-    );
+    books.extend((0..60).map(|number| random.book([5, 12, 127][number % 3], [1, 10, 40][number % 3])));
     for book in &books {
         for most in [0, 3, 20, 250] {
             check(book, &random.history(book, most), &mut seen);

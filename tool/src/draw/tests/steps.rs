@@ -52,9 +52,7 @@ fn codes(frame: &Frame, words: &str, tag: &str) -> Vec<usize> {
     };
     let code = |request| move |&accepted: &bool| frame.code(Step::Decided { request, accepted });
     let requests = requests(frame, words).into_iter();
-    requests
-        .flat_map(|request| answers.iter().map(code(request)))
-        .collect()
+    requests.flat_map(|request| answers.iter().map(code(request))).collect()
 }
 
 /// The words of each row, a part's from the row that it belongs to.
