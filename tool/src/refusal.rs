@@ -346,7 +346,8 @@ fn judge_entries(bytes: &[u8]) -> Option<Refusal> {
     None
 }
 
-fn count(number: usize, what: &str) -> String {
+/// A number of things.
+pub fn count(number: usize, what: &str) -> String {
     match number {
         1 => format!("1 {what}"),
         _ => format!("{number} {what}s"),

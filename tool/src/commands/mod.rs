@@ -16,6 +16,7 @@ use crate::arguments::{wrong, Arguments};
 use crate::input::{read, Failure, Given, Subject};
 use crate::json::Json;
 use crate::names::Names;
+use crate::refusal::count;
 
 /// What a command has to say.
 #[derive(Debug, Default)]
@@ -109,26 +110,29 @@ impl Command {
             Command::Inventory => inventory::inventory(arguments),
         }
     }
-}
 
-impl Command {
-    /// That no file is written over one that is read, but by `print`, which writes
-    /// the same rules.
+    /// That no file is written over one that is read, but a text by `print`, which
+    /// writes the same rules.
     fn keeps_input(self, arguments: &Arguments) -> Result<(), Failure> {
-        let Some(output) = arguments.output.as_deref().and_then(|output| fs::canonicalize(output).ok()) else {
+        let output = arguments.output.as_deref().and_then(|output| fs::canonicalize(output).ok());
+        let Some(output) = output.filter(|output| output.is_file()) else {
             return Ok(());
         };
-        let is_file = fs::metadata(&output).is_ok_and(|data| data.is_file());
-        let mut read = arguments.words.iter().chain(&arguments.names);
-        let same = read.find(|word| fs::canonicalize(word).is_ok_and(|path| path == output));
-        match same {
-            Some(word) if is_file && self != Command::Print => Err(wrong(
-                &format!("{word} is read, and would be written over; name another file after -o"),
-                Some(self),
-            )),
+        let is_output = |word: &&String| fs::canonicalize(word).is_ok_and(|path| path == output);
+        let printed = self == Command::Print && !arguments.names.iter().any(|names| is_output(&names));
+        match arguments.words.iter().chain(&arguments.names).find(is_output) {
+            Some(word) if !(printed && is_text(word)) => {
+                let message = format!("{word} is read, and would be written over; name another file after -o");
+                Err(wrong(&message, Some(self)))
+            }
             _ => Ok(()),
         }
     }
+}
+
+/// Whether a file has neither the mark of a policy file nor that of a book.
+fn is_text(file: &str) -> bool {
+    fs::read(file).is_ok_and(|bytes| !bytes.starts_with(b"POL") && !bytes.starts_with(b"BOK"))
 }
 
 /// The names given by `--names`.
@@ -179,14 +183,6 @@ fn after_words(names: &Names, history: &[u8]) -> String {
     match history {
         [] => "at the start".to_string(),
         _ => format!("after {}", names.history(history)),
-    }
-}
-
-/// A number of things.
-fn count(number: usize, what: &str) -> String {
-    match number {
-        1 => format!("1 {what}"),
-        _ => format!("{number} {what}s"),
     }
 }
 
