@@ -149,7 +149,7 @@ static int read_either(const char *name, struct bytes *book)
     struct bytes file;
     *book = (struct bytes){ NULL, 0 };
     if (!read_file(name, BOOK_READ, &file)) return 2;
-    if (file.length >= 3 && memcmp(file.data, "BOK", 3) == 0) {
+    if (policybook_is_book(file.data, file.length)) {
         *book = file;
         return 0;
     }

@@ -3,7 +3,6 @@
 
 #include <stdio.h>
 #include <stdlib.h>
-#include <string.h>
 
 #include "policybook.h"
 
@@ -33,6 +32,5 @@ static int build(const char *name, struct bytes *file)
 int read_book(const char *name, struct bytes *book)
 {
     if (!read_file(name, FILE_READ, book)) return 2;
-    int is_book = book->length >= 3 && memcmp(book->data, "BOK", 3) == 0;
-    return is_book ? 0 : build(name, book);
+    return policybook_is_book(book->data, book->length) ? 0 : build(name, book);
 }

@@ -3,8 +3,10 @@
  * later and for C++.
  *
  * A policy file holds access rules, 0 to 32 of them. Its book is a table that says, after every history of events and decided requests, which
- * steps are possible next. A step is one byte, its code; a history is a list of codes. docs/FORMATS.md describes policies, books and codes byte
- * by byte.
+ * steps are possible next. A step is one byte, its code; a history is a list of codes. A policy file begins with the mark POL, the bytes 50 4F 4C,
+ * a book with the mark BOK, 42 4F 4B. docs/FORMATS.md describes policies, books and codes byte by byte. Paths named here are paths in the repository.
+ *
+ * A desk that decides requests needs policybook_build and the inline functions under "Reading and walking a book".
  *
  *     uint8_t book[POLICYBOOK_BOOK_SIZE];
  *     uint64_t answer = policybook_build(policy, policy_length, book, sizeof book);
@@ -39,6 +41,9 @@
 extern "C" {
 #endif
 
+/* The version of the header and the library, which pkg-config names too. docs/C-INTERFACE.md says what stays from one to the next. */
+#define POLICYBOOK_VERSION "0.1.0"
+
 /* The least sizes of the lent buffers, in bytes. A shorter one is refused with POLICYBOOK_SHORT_BUFFER. */
 #define POLICYBOOK_BOOK_SIZE    17284 /* build: the book; no book is longer */
 #define POLICYBOOK_FINDING_SIZE   128 /* verdict: each of the three histories, of at most 126 codes */
@@ -46,7 +51,8 @@ extern "C" {
 #define POLICYBOOK_PAGE_SIZE     9271 /* page: the page; none is longer */
 #define POLICYBOOK_WAY_SIZE       128 /* way: the history, of at most 126 codes */
 
-/* No policy is longer. A host that reads one byte more of a longer file gets the refusal that the whole file would get. */
+/* No policy is longer. A host that reads one byte more of a longer file gets the refusal that the whole file would get; so does one that takes
+ * policies and books and reads POLICYBOOK_BOOK_SIZE + 1 bytes. */
 #define POLICYBOOK_POLICY_MOST    753
 
 /*
@@ -210,32 +216,86 @@ static inline const char *policybook_refusal_text(unsigned number)
 /*
  * ---- Reading and walking a book ----
  *
- * These take a book that was built, or that verdict, compare, page or way did not refuse (15, 16 and 18 are not about a book alone); they do not
- * check it again and are not told its length. A book from elsewhere is checked by one call:
- * policybook_way(book, book_length, 0, 0, history, POLICYBOOK_WAY_SIZE). A state, code or request may be any unsigned: outside the book nothing is
- * possible, and nothing outside is read. Of bytes that are no book policybook_next and policybook_outcome_of may read more than there are; the
- * other functions read the first 12.
+ * Most of these take a book that was built, or that policybook_check did not refuse; they do not check it again and are not told its length. (What
+ * verdict, compare, page or way did not refuse will do as well; 15, 16 and 18 are not about a book alone.) A state, code, event, request, field or
+ * value may be any unsigned: outside the book nothing is possible, and nothing outside is read. A wider number must not be cut on its way to
+ * unsigned: 2^32 + 1 would become 1. Of bytes that are no book policybook_next, policybook_outcome_of and policybook_after may read more than there
+ * are; the other functions that are not told a length read the first 12.
  *
  *     unsigned state = 1;                                                     // the start
  *     unsigned next = policybook_next(book, state, policybook_accept_code(book, 1));
  *     if (next == 0) printf("request 1 may not be accepted now\n");            // keep the state: from state 0 nothing is possible
  *     else state = next;
  *     if (policybook_outcome_of(book, state, 0) == POLICYBOOK_OUTCOME_BOTH) printf("request 0 may be accepted and may be rejected\n");
+ *     state = policybook_next(book, state, policybook_event_code(book, 0));   // an event that the book has is always possible
  *
- * In the book of case E this step leads from state 1 to 2 and from 2 to 3; in state 3 it is not possible, and there the last line is printed. The
- * code of event e is e itself.
+ * In the book of case E the first step leads from state 1 to 2 and from 2 to 3; in state 3 it is not possible, and there the second message is
+ * printed. The event leads back to state 1.
+ *
+ * policybook_next takes a code, not the number of an event or a request. With 2 events the codes are 0 and 1 for these, then 2 and 3 for request 0
+ * accepted and rejected, 4 and 5 for request 1: policybook_next(book, 1, 4) has request 1 accepted, also where 4 was meant as an event, which the
+ * book has not. policybook_event_code(book, 4) is no code, and no step.
  */
+
+/* Whether bytes begin with a book's mark, BOK; else they may be a policy. No more is checked. */
+static inline int policybook_is_book(const uint8_t *bytes, size_t length)
+{
+    return length >= 3 && bytes[0] == 0x42 && bytes[1] == 0x4F && bytes[2] == 0x4B;
+}
+
+/* Checks a book from elsewhere, which may be any bytes: the refusal's number, 12 to 14, or POLICYBOOK_OK if it can be walked, for as long as its
+ * bytes stay as they are. This is a call of policybook_way, and needs as much stack. */
+static inline unsigned policybook_check(const uint8_t *book, size_t length)
+{
+    uint8_t history[POLICYBOOK_WAY_SIZE];
+    return policybook_refusal_of(policybook_way(book, length, 0, POLICYBOOK_OUTCOME_NONE, history, sizeof history));
+}
+
+/* How many fields a request has, 1 to 4, and how many values a field has; 0 for a field that the book has not. */
+static inline unsigned policybook_fields_of(const uint8_t *book)
+{
+    unsigned fields = book[6];
+    return fields < 4 ? fields : 4;
+}
+static inline unsigned policybook_values_of(const uint8_t *book, unsigned field)
+{
+    if (field >= policybook_fields_of(book)) return 0;
+    return book[7 + field];
+}
 
 /* How many events, requests, states and codes the book has. */
 static inline unsigned policybook_events_of(const uint8_t *book) { return book[5]; }
 static inline unsigned policybook_requests_of(const uint8_t *book)
 {
     unsigned requests = 1;
-    for (unsigned field = 0; field < book[6] && field < 4; field++) requests *= book[7 + field];
+    for (unsigned field = 0; field < policybook_fields_of(book); field++) requests *= policybook_values_of(book, field);
     return requests;
 }
 static inline unsigned policybook_states_of(const uint8_t *book) { return book[11]; }
 static inline unsigned policybook_codes_of(const uint8_t *book) { return policybook_events_of(book) + 2 * policybook_requests_of(book); }
+
+/*
+ * The number of the request with these values, one for each field, in the order of the fields. If one of them is not below its field's count: the
+ * number of requests, which is no request. With 2 persons and 3 actions the number is person * 3 + action:
+ *
+ *     unsigned values[4] = { 1, 2 };                                          // person 1, action 2; room for 4 is enough for every book
+ *     unsigned request = policybook_request_of(book, values);                 // 5
+ */
+static inline unsigned policybook_request_of(const uint8_t *book, const unsigned *values)
+{
+    unsigned request = 0;
+    for (unsigned field = 0; field < policybook_fields_of(book); field++) {
+        if (values[field] >= policybook_values_of(book, field)) return policybook_requests_of(book);
+        request = request * policybook_values_of(book, field) + values[field];
+    }
+    return request;
+}
+
+/* The code of an event. For an event that the book has not: the number of codes, which is no code. */
+static inline unsigned policybook_event_code(const uint8_t *book, unsigned event)
+{
+    return event < policybook_events_of(book) ? event : policybook_codes_of(book);
+}
 
 /* The code of a request accepted, and rejected. For a request that the book has not: the number of codes, which is no code. */
 static inline unsigned policybook_accept_code(const uint8_t *book, unsigned request)
@@ -249,12 +309,21 @@ static inline unsigned policybook_reject_code(const uint8_t *book, unsigned requ
     return policybook_events_of(book) + 2 * request + 1;
 }
 
-/* The state that a code leads to from a state (1 is the start). 0 if the step is not possible, or the book has no such state (as 0) or code. */
+/* The state that a code leads to from a state (1 is the start). 0 if the step is not possible, or the book has no such state (as 0) or code. The step
+ * of an event is always possible, from every state that the book has. */
 static inline unsigned policybook_next(const uint8_t *book, unsigned state, unsigned code)
 {
     size_t codes = policybook_codes_of(book);
     if (state < 1 || state > policybook_states_of(book) || code >= codes) return 0;
     return book[12 + (state - 1) * codes + code];
+}
+
+/* The state that a history, a list of codes, leads to from the start; 1 for the empty one. 0 if it is not possible. */
+static inline unsigned policybook_after(const uint8_t *book, const uint8_t *codes, size_t length)
+{
+    unsigned state = 1;
+    for (size_t i = 0; i < length && state != 0; i++) state = policybook_next(book, state, codes[i]);
+    return state;
 }
 
 /* What may happen to a request in a state. POLICYBOOK_OUTCOME_NONE if the book has no such state or request. */
@@ -267,24 +336,27 @@ static inline enum policybook_outcome policybook_outcome_of(const uint8_t *book,
     return may_reject ? POLICYBOOK_OUTCOME_REJECT : POLICYBOOK_OUTCOME_NONE;
 }
 
-/* What a code stands for. */
+/* What a code stands for. Where found is 0 it stands for nothing, whatever the other members are. */
 struct policybook_step {
     int is_event;     /* 1 for an event, 0 for a request that is decided */
     unsigned number;  /* which event, or which request */
     int accepted;     /* for a request: 1 accepted, 0 rejected */
+    int found;        /* 1 for a code that the book has, else 0 */
 };
 
-/* For a code that the book has not: no event, not accepted, and as its number the number of requests, which no request has. */
+/* For a code that the book has not: not found, no event, not accepted, and as its number the number of requests, which no request has. */
 static inline struct policybook_step policybook_step_of(const uint8_t *book, unsigned code)
 {
-    struct policybook_step step = { 0, policybook_requests_of(book), 0 };
+    struct policybook_step step = { 0, policybook_requests_of(book), 0, 0 };
     unsigned events = policybook_events_of(book);
     if (code < events) {
         step.is_event = 1;
         step.number = code;
+        step.found = 1;
     } else if (code < policybook_codes_of(book)) {
         step.number = (code - events) / 2;
         step.accepted = (code - events) % 2 == 0;
+        step.found = 1;
     }
     return step;
 }

@@ -100,24 +100,16 @@ static int build_and_judge(const char *name, struct bytes *book)
     return refused;
 }
 
-/* Whether each of the codes is possible, one after another from the start. */
-static int is_possible(const uint8_t *book, const uint8_t *history, uint64_t length)
-{
-    unsigned state = 1;
-    for (uint64_t i = 0; i < length && state != 0; i++) state = policybook_next(book, state, history[i]);
-    return state != 0;
-}
-
 static int compare(const char *first_name, struct bytes first, const char *second_name, struct bytes second)
 {
     uint8_t *history = lent_buffer(POLICYBOOK_HISTORY_SIZE, 0);
     uint64_t answer = policybook_compare(first.data, first.length, second.data, second.length, history, POLICYBOOK_HISTORY_SIZE);
     int refused = is_refused("comparison", answer);
-    uint64_t length = policybook_value_of(answer);
+    size_t length = (size_t)policybook_value_of(answer);
     if (!refused && length == 0) {
         printf("comparison: the same histories are possible under both\n");
     } else if (!refused) {
-        printf("comparison: the earliest history possible under just one of them, %s: ", is_possible(first.data, history, length) ? first_name : second_name);
+        printf("comparison: the earliest history possible under just one of them, %s: ", policybook_after(first.data, history, length) != 0 ? first_name : second_name);
         print_history(first.data, history, length);
     }
     free(history);

@@ -52,9 +52,9 @@ static void test_reading(void)
     struct policybook_step accepted = policybook_step_of(book_e, 3), rejected = policybook_step_of(book_e, 4);
     CHECK(policybook_events_of(book_e) == 1 && policybook_requests_of(book_e) == 2 && policybook_states_of(book_e) == 3);
     CHECK(policybook_next(book_e, 1, 3) == 2 && policybook_next(book_e, 1, 4) == 0 && policybook_next(book_e, 3, 4) == 3);
-    CHECK(event.is_event && event.number == 0);
-    CHECK(!accepted.is_event && accepted.number == 1 && accepted.accepted);
-    CHECK(!rejected.is_event && rejected.number == 1 && !rejected.accepted);
+    CHECK(event.is_event && event.number == 0 && event.found);
+    CHECK(!accepted.is_event && accepted.number == 1 && accepted.accepted && accepted.found);
+    CHECK(!rejected.is_event && rejected.number == 1 && !rejected.accepted && rejected.found);
     CHECK(policybook_value_of(POLICYBOOK_FRAMES) == 0 && policybook_refusal_of(768) == POLICYBOOK_OK);
     CHECK(strcmp(policybook_refusal_text(POLICYBOOK_UNKNOWN_OUTCOME + 1), "no such refusal") == 0);
     CHECK(strcmp(policybook_refusal_text(POLICYBOOK_START), "a starting value is above 63") == 0);
@@ -69,6 +69,7 @@ int main(void)
     test_same_bytes();
     test_no_rules();
     test_next();
+    test_desk();
     test_reading();
     if (failures == 0) printf("host/test.c: every check holds\n");
     else printf("host/test.c: FAILED, checks that do not hold: %d\n", failures);

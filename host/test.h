@@ -37,5 +37,6 @@ void test_ways(void);
 void test_same_bytes(void);
 void test_no_rules(void);
 void test_next(void);
+void test_desk(void);
 
 #endif

@@ -1,6 +1,7 @@
 /*
- * Tests of the inline functions that read a book, for states, codes and requests inside and outside of it. Each book is a block of its own, so that memcheck
- * sees a read outside; what must be answered is taken from the rows by sizes that are given, not read from the header.
+ * Tests of the inline functions that read a book, for states, codes, events, requests, fields and values inside and outside of it. Each book and each list of
+ * values is a block of its own, so that memcheck sees a read outside; what must be answered is taken from the rows by sizes that are given, not read from the
+ * header.
  */
 #include "test.h"
 
@@ -14,6 +15,7 @@
 struct sized {
     struct bytes bytes;
     unsigned events, requests, states;
+    uint8_t counts[4];
 };
 
 static unsigned codes_in(struct sized book) { return book.events + 2 * book.requests; }
@@ -21,7 +23,7 @@ static unsigned codes_in(struct sized book) { return book.events + 2 * book.requ
 /* Rows in which about every third step of a request is not possible; the event's and other entries are states of all numbers. */
 static struct sized mixed_book(unsigned events, const uint8_t counts[4], unsigned states)
 {
-    struct sized book = { { NULL, 0 }, events, 1, states };
+    struct sized book = { { NULL, 0 }, events, 1, states, { counts[0], counts[1], counts[2], counts[3] } };
     uint8_t header[12] = { 0x42, 0x4F, 0x4B, 0x00, 0x01, (uint8_t)events, 0, counts[0], counts[1], counts[2], counts[3], (uint8_t)states };
     for (int field = 0; field < 4 && counts[field] != 0; field++) {
         header[6]++;
@@ -99,6 +101,54 @@ static void expect_requests(struct sized book)
     }
 }
 
+static void expect_events(struct sized book)
+{
+    struct numbers events = numbers_beside(book.events);
+    for (unsigned e = 0; e < events.count; e++) {
+        unsigned event = events.list[e];
+        CHECK(policybook_event_code(book.bytes.data, event) == (event < book.events ? event : codes_in(book)));
+    }
+}
+
+static unsigned fields_in(struct sized book)
+{
+    unsigned fields = 0;
+    while (fields < 4 && book.counts[fields] != 0) fields++;
+    return fields;
+}
+
+/* No request has these values if any of them is past its field's count, whatever the others are. */
+static void expect_no_request(struct sized book, unsigned *values)
+{
+    for (unsigned field = 0; field < fields_in(book); field++) {
+        struct numbers numbers = numbers_beside(book.counts[field]);
+        unsigned kept = values[field];
+        for (unsigned i = book.counts[field]; i < numbers.count; i++) {
+            values[field] = numbers.list[i];
+            CHECK(policybook_request_of(book.bytes.data, values) == book.requests);
+        }
+        values[field] = kept;
+    }
+}
+
+/* The values of all requests in the order of their numbers: the last field goes on with each, a field before it once that one is through. */
+static void expect_fields(struct sized book)
+{
+    unsigned fields = fields_in(book), *values = room_for(fields, sizeof *values);
+    struct numbers numbers = numbers_beside(4);
+    CHECK(policybook_fields_of(book.bytes.data) == fields);
+    for (unsigned i = 0; i < numbers.count; i++) {
+        unsigned field = numbers.list[i];
+        CHECK(policybook_values_of(book.bytes.data, field) == (field < fields ? book.counts[field] : 0));
+    }
+    for (unsigned request = 0; request < book.requests; request++) {
+        CHECK(policybook_request_of(book.bytes.data, values) == request);
+        expect_no_request(book, values);
+        for (unsigned field = fields; field-- > 0 && ++values[field] == book.counts[field];) values[field] = 0;
+    }
+    free(values);
+}
+
 /* What a code stands for, and that it is the code of that. */
 static void expect_steps(struct sized book)
 {
@@ -106,7 +156,7 @@ static void expect_steps(struct sized book)
     for (unsigned c = 0; c < codes.count; c++) {
         unsigned code = codes.list[c];
         struct policybook_step step = policybook_step_of(book.bytes.data, code);
-        CHECK(step.is_event == (code < book.events));
+        CHECK(step.is_event == (code < book.events) && step.found == (code < codes_in(book)));
         if (step.is_event) {
             CHECK(step.number == code && step.accepted == 0);
         } else if (code >= codes_in(book)) {
@@ -128,6 +178,8 @@ static void expect_reading(struct sized book)
     free(history);
     expect_next(book);
     expect_requests(book);
+    expect_events(book);
+    expect_fields(book);
     expect_steps(book);
     free(book.bytes.data);
 }
@@ -136,9 +188,9 @@ static void test_books(void)
 {
     static const uint8_t one[4] = { 1, 0, 0, 0 }, two[4] = { 2, 0, 0, 0 }, twelve[4] = { 3, 4, 0, 0 }, ten[4] = { 1, 5, 2, 0 };
     static const uint8_t twenty_four[4] = { 4, 3, 2, 1 }, most[4] = { 16, 4, 0, 0 }, most_in_four[4] = { 2, 4, 2, 4 };
-    expect_reading((struct sized){ exact_copy(book_e, sizeof book_e), 1, 2, 3 });
-    expect_reading((struct sized){ exact_copy(book_g, sizeof book_g), 0, 2, 2 });
-    expect_reading((struct sized){ full_book(), 0, WIDTH / 2, STATES });
+    expect_reading((struct sized){ exact_copy(book_e, sizeof book_e), 1, 2, 3, { 2 } });
+    expect_reading((struct sized){ exact_copy(book_g, sizeof book_g), 0, 2, 2, { 2 } });
+    expect_reading((struct sized){ full_book(), 0, WIDTH / 2, STATES, { 16, 4 } });
     expect_reading(mixed_book(0, one, 1)); /* 14 bytes, the shortest book */
     expect_reading(mixed_book(8, one, STATES));
     expect_reading(mixed_book(1, two, 5));
@@ -163,13 +215,37 @@ static void test_walks(void)
     free(e.data);
 }
 
-/* What needs no rows reads 12 bytes, whatever they are. */
+/* An event's number that the book has not may be the code of a request; as an event it leads nowhere. */
+static void test_event_past_the_last(void)
+{
+    static const uint8_t bytes[] = { 0x42, 0x4F, 0x4B, 0x00, 0x01, 0x02, 0x01, 0x02, 0x00, 0x00, 0x00, 0x01, 1, 1, 1, 0, 1, 0 };
+    struct bytes book = exact_copy(bytes, sizeof bytes);
+    CHECK(policybook_next(book.data, 1, 4) == 1 && policybook_accept_code(book.data, 1) == 4);
+    CHECK(policybook_next(book.data, 1, policybook_event_code(book.data, 4)) == 0);
+    CHECK(policybook_next(book.data, 1, policybook_event_code(book.data, 2)) == 0);
+    CHECK(policybook_next(book.data, 1, policybook_event_code(book.data, 1)) == 1);
+    free(book.data);
+}
+
+/* What needs no rows reads 12 bytes, and at most four values, whatever the bytes are. */
 static void test_any_header(void)
 {
-    struct bytes header = { lent_buffer(12, 0xFF), 12 };
+    static const unsigned greatest[4] = { 254, 254, 254, 254 };
+    struct bytes header = { lent_buffer(12, 0xFF), 12 }, zeros = { lent_buffer(12, 0), 12 };
+    unsigned *values = room_for(4, sizeof *values);
+    memcpy(values, greatest, sizeof greatest);
     CHECK(policybook_events_of(header.data) == 255 && policybook_states_of(header.data) == 255);
     CHECK(policybook_requests_of(header.data) == 255U * 255 * 255 * 255);
     CHECK(policybook_step_of(header.data, 255).number == 0 && policybook_accept_code(header.data, 1) == 257);
+    CHECK(policybook_event_code(header.data, 254) == 254 && policybook_event_code(header.data, 255) == policybook_codes_of(header.data));
+    CHECK(policybook_fields_of(header.data) == 4 && policybook_values_of(header.data, 3) == 255 && policybook_values_of(header.data, 4) == 0);
+    CHECK(policybook_request_of(header.data, values) == 255U * 255 * 255 * 255 - 1);
+    values[3] = 255;
+    CHECK(policybook_request_of(header.data, values) == 255U * 255 * 255 * 255);
+    CHECK(policybook_fields_of(zeros.data) == 0 && policybook_values_of(zeros.data, 0) == 0 && policybook_event_code(zeros.data, 0) == 2);
+    CHECK(policybook_next(zeros.data, 1, 0) == 0 && policybook_request_of(zeros.data, values) == 0);
+    free(values);
+    free(zeros.data);
     free(header.data);
 }
 
@@ -177,5 +253,6 @@ void test_next(void)
 {
     test_books();
     test_walks();
+    test_event_past_the_last();
     test_any_header();
 }

@@ -18,15 +18,6 @@ static const char *const outcomes[] = {
     [POLICYBOOK_OUTCOME_BOTH] = "both",
 };
 
-/* Whether the book is refused. One that was built never is, but one from a file may be anything, and what reads it below does not check it. */
-static int is_refused_book(const char *name, struct bytes book)
-{
-    uint8_t *history = lent_buffer(POLICYBOOK_WAY_SIZE, 0);
-    int refused = is_refused(name, policybook_way(book.data, book.length, 0, POLICYBOOK_OUTCOME_NONE, history, POLICYBOOK_WAY_SIZE));
-    free(history);
-    return refused;
-}
-
 /* Ends a line: the state and the outcome of each request in it. */
 static void print_state(const uint8_t *book, unsigned state)
 {
@@ -36,9 +27,8 @@ static void print_state(const uint8_t *book, unsigned state)
     printf("\n");
 }
 
-static void print_step(const uint8_t *book, unsigned code)
+static void print_step(struct policybook_step step)
 {
-    struct policybook_step step = policybook_step_of(book, code);
     if (step.is_event) printf("event %u", step.number);
     else printf("request %u %s", step.number, step.accepted ? "accepted" : "rejected");
 }
@@ -46,12 +36,13 @@ static void print_step(const uint8_t *book, unsigned code)
 /* Says where the step leads. The state after it; the same where it is not possible. */
 static unsigned take_step(const uint8_t *book, unsigned state, unsigned code)
 {
-    unsigned next = policybook_next(book, state, code), codes = policybook_codes_of(book);
-    if (code >= codes) {
-        printf("no such code: they are 0 to %u\n", codes - 1);
+    struct policybook_step step = policybook_step_of(book, code);
+    unsigned next = policybook_next(book, state, code);
+    if (!step.found) {
+        printf("no such code: they are 0 to %u\n", policybook_codes_of(book) - 1);
         return state;
     }
-    print_step(book, code);
+    print_step(step);
     if (next == 0) {
         printf(": not possible\n");
         return state;
@@ -70,11 +61,11 @@ static int read_code(const char *text, unsigned *code)
     return is_number;
 }
 
-/* The exit status. */
+/* The exit status. A book that was built is never refused, but one from a file may be anything, and what reads it here does not check it. */
 static int walk(const char *name, struct bytes book, char **codes, int count)
 {
     unsigned state = 1, code;
-    if (is_refused_book(name, book)) return 1;
+    if (is_refused(name, policybook_check(book.data, book.length))) return 1;
     printf("at the start, ");
     print_state(book.data, state);
     for (int i = 0; i < count; i++) {

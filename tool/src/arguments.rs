@@ -2,6 +2,7 @@
 
 use crate::commands::Command;
 use crate::input::Failure;
+use crate::notation::did_you_mean_word;
 
 /// What the tool is asked to do.
 #[derive(Debug, Default)]
@@ -73,7 +74,10 @@ fn help_on(word: Option<String>) -> Result<Call, Failure> {
 fn command_named(word: &str) -> Result<Command, Failure> {
     Command::named(word).ok_or_else(|| {
         let words = Command::ALL.map(Command::word);
-        wrong(&format!("`{word}` is no command; there are {}", words.join(", ")), None)
+        match did_you_mean_word(word, &words) {
+            hint if hint.is_empty() => wrong(&format!("`{word}` is no command; there are {}", words.join(", ")), None),
+            hint => wrong(&format!("`{word}` is no command; {hint}"), None),
+        }
     })
 }
 

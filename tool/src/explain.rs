@@ -41,6 +41,27 @@ pub fn situation(policy: &Policy, history: &[u8]) -> BTreeSet<Valuation> {
     situation
 }
 
+/// The first step of a history at which rules with the same decision applied that
+/// change differently, so that it is open which was carried out: its number from 0,
+/// and these rules.
+pub fn first_fork(policy: &Policy, history: &[u8]) -> Option<(usize, BTreeSet<usize>)> {
+    let bounds = policy.bounds();
+    (0..history.len()).find_map(|number| {
+        let Step::Decided { request, accepted } = policy.frame.step(usize::from(history[number])) else {
+            return None;
+        };
+        let before = situation(policy, &history[..number]);
+        let forks = before.iter().find_map(|valuation| {
+            let decided = |&rule: &usize| policy.rules[rule].accepts == accepted;
+            let rules: BTreeSet<usize> = applying(policy, valuation, request).into_iter().filter(decided).collect();
+            let image = |&rule: &usize| changed(&bounds, valuation, &policy.rules[rule].changes);
+            let images: BTreeSet<Valuation> = rules.iter().map(image).collect();
+            (images.len() > 1).then_some(rules)
+        });
+        forks.map(|rules| (number, rules))
+    })
+}
+
 /// The rules that apply to a request in some valuation of a situation.
 pub fn deciding_rules(policy: &Policy, situation: &BTreeSet<Valuation>, request: usize) -> Deciding {
     let mut deciding = Deciding::default();

@@ -126,11 +126,11 @@ equally many.
   policybook compare rules.txt draft.txt"
         }
         Command::After => {
-            "Says what is possible after some steps, or at the start where none are given: where
-each request leads, and by which rules. A STEP is an event's name, or a request's values
-and `accepted` or `rejected`, or `code` and its number; `twice` or `3 times` may follow
-it, and commas may be there. `state 5` is the state with that number on the page or in
-the picture, after its earliest history.
+            "Says what is possible after some steps, or at the start where none are given: what the
+variables have come to, where each request leads, and by which rules. A STEP is an
+event's name, or a request's values and `accepted` or `rejected`, or `code` and its
+number; `twice` or `3 times` may follow it, and commas may be there. `state 5` is the
+state with that number on the page or in the picture, after its earliest history.
 
 Exit status: 0; 2 where a step is not possible.
 

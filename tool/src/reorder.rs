@@ -6,6 +6,22 @@ use std::collections::BTreeSet;
 use crate::names::Names;
 use crate::policy::{Policy, Rule};
 
+/// Whether two texts declare the same events and values in the same order.
+pub fn same_order(one: &Names, other: &Names) -> bool {
+    let values =
+        |names: &Names| -> Vec<Vec<String>> { names.fields.iter().map(|field| field.values.clone()).collect() };
+    one.events == other.events && values(one) == values(other)
+}
+
+/// The names in the order of the alphabet, the same for texts that name the same.
+pub fn sorted(names: &Names) -> Names {
+    let mut sorted = names.clone();
+    sorted.events.sort();
+    sorted.fields.iter_mut().for_each(|field| field.values.sort());
+    sorted.fields.sort_by(|one, other| one.name.cmp(&other.name));
+    sorted
+}
+
 /// Where each thing of the other order stands in this one.
 struct Order {
     events: Vec<usize>,
@@ -71,7 +87,7 @@ pub fn difference(first: (&str, &Names), second: (&str, &Names)) -> String {
     };
     let parts: Vec<String> = [only(first, second.1), only(second, first.1)].into_iter().flatten().collect();
     match parts.is_empty() {
-        true => "the same names stand in different fields".to_string(),
+        true => "they declare the same names in another order".to_string(),
         false => parts.join("; "),
     }
 }

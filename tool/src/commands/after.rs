@@ -11,7 +11,7 @@ use crate::explain::{deciding_rules, situation, Deciding};
 use crate::frame::Step;
 use crate::input::{Failure, Subject};
 use crate::json::Json;
-use crate::notation::parse_steps;
+use crate::notation::{parse_steps, quoted};
 use crate::refusal::rule_place;
 
 pub fn after(arguments: &Arguments) -> Result<Answer, Failure> {
@@ -20,15 +20,20 @@ pub fn after(arguments: &Arguments) -> Result<Answer, Failure> {
         return Err(wrong("no file is named", Some(Command::After)));
     };
     let subject = subject(file, arguments)?;
-    let steps = match state_asked(&subject, words) {
-        Some(state) => history_to(&subject, state)?,
-        None => parse_steps(&subject.names, words).map_err(|message| wrong(&message, Some(Command::After)))?,
-    };
+    let steps = steps_of(&subject, words, Command::After)?;
     let states = walk(&subject, &steps)?;
     let state = states.last().copied().unwrap_or(1);
     let words = Page::new(&subject, &steps, state).words(&steps);
     let json = json_of(&subject, &steps, &states, state);
     Ok(answer(arguments, 0, words, json))
+}
+
+/// The steps that words say, or those of the earliest history to a state.
+pub fn steps_of(subject: &Subject, words: &[String], command: Command) -> Result<Vec<u8>, Failure> {
+    match state_asked(subject, words) {
+        Some(state) => history_to(subject, state),
+        None => parse_steps(&subject.names, words).map_err(|message| wrong(&message, Some(command))),
+    }
 }
 
 /// The state that the words `state 14` name, unless `state` is a name.
@@ -113,6 +118,7 @@ impl Page<'_> {
     fn words(&self, steps: &[u8]) -> String {
         let (book, names) = (&self.subject.book, &self.subject.names);
         let mut lines = vec![format!("{}: state {} of {}", after_words(names, steps), self.state, book.states())];
+        lines.extend(self.counters(steps));
         let titles = [
             (Outcome::Accept, "accepted"),
             (Outcome::Reject, "rejected"),
@@ -135,6 +141,18 @@ impl Page<'_> {
         }
         lines.extend(self.event_lines());
         lines.join("\n") + "\n"
+    }
+
+    /// What the variables have come to; several possibilities where it is open which
+    /// rule was carried out.
+    fn counters(&self, steps: &[u8]) -> Option<String> {
+        let policy = self.subject.policy.as_ref().filter(|policy| !policy.starts.is_empty())?;
+        let words = |valuation: &Vec<u8>| -> String {
+            let values = self.subject.names.variables.iter().zip(valuation);
+            values.map(|(name, value)| format!("{} {value}", quoted(name))).collect::<Vec<String>>().join(", ")
+        };
+        let valuations: Vec<String> = situation(policy, steps).iter().map(words).collect();
+        Some(format!("  variables: {}", valuations.join("; or ")))
     }
 
     /// The requests with an outcome: alike ones together, where they lead, and the
@@ -173,9 +191,12 @@ impl Page<'_> {
         let Some(rules) = &fate.rules else {
             return String::new();
         };
-        let places = rules.accepting.union(&rules.rejecting);
-        let places: Vec<String> = places.map(|&rule| rule_place(rule, self.subject.document.rule_lines())).collect();
-        places.join(", ")
+        let places = |rules: &BTreeSet<usize>| -> String {
+            let lines = self.subject.document.rule_lines();
+            rules.iter().map(|&rule| rule_place(rule, lines)).collect::<Vec<String>>().join(" or ")
+        };
+        let sides = [places(&rules.accepting), places(&rules.rejecting)];
+        sides.into_iter().filter(|side| !side.is_empty()).collect::<Vec<String>>().join("; ")
     }
 
     fn event_lines(&self) -> Vec<String> {

@@ -7,7 +7,7 @@ use super::{count, given, history_json, one_standard_input, request_json, Answer
 use crate::arguments::{wrong, Arguments};
 use crate::book::Outcome;
 use crate::draw::cover;
-use crate::explain::{deciding_rules, idle, remarks, situation, Deciding, Idle};
+use crate::explain::{deciding_rules, first_fork, idle, remarks, situation, Deciding, Idle};
 use crate::input::{read, Failure, Given, Subject};
 use crate::json::Json;
 use crate::library::{self, Finding, Findings};
@@ -111,9 +111,10 @@ impl Checked {
         let mut lines = vec![self.headline()];
         if let Some(finding) = &self.findings.conflict {
             lines.push(format!("  conflict: {}", of_request(names, finding, Outcome::Both)));
-            lines.extend(
-                self.deciding.as_ref().map(|deciding| format!("            {}", self.deciding_words(deciding))),
-            );
+            if let Some(deciding) = &self.deciding {
+                lines.push(format!("            {}", self.deciding_words(deciding)));
+                lines.extend(self.fork_words(finding, deciding));
+            }
             lines.extend(self.further(finding.request, Outcome::Both));
         }
         if let Some(finding) = &self.findings.missing {
@@ -161,8 +162,19 @@ impl Checked {
             let ending = if places.len() == 1 { "s" } else { "" };
             format!("{} {verb}{ending}", places.join(" and "))
         };
-        let depends = if deciding.at_once { "" } else { ", depending on which rule was carried out before" };
-        format!("{}; {}{depends}", side(&deciding.accepting, "accept"), side(&deciding.rejecting, "reject"))
+        format!("{}; {}", side(&deciding.accepting, "accept"), side(&deciding.rejecting, "reject"))
+    }
+
+    /// Where no single valuation has both answers: at which step it became open which
+    /// rule was carried out.
+    fn fork_words(&self, finding: &Finding, deciding: &Deciding) -> Option<String> {
+        let policy = self.subject.policy.as_ref().filter(|_| !deciding.at_once)?;
+        let (number, rules) = first_fork(policy, &finding.history)?;
+        let lines = self.subject.document.rule_lines();
+        let places: Vec<String> = rules.iter().map(|&rule| rule_place(rule, lines)).collect();
+        let step = self.subject.names.step(usize::from(finding.history[number]));
+        let how = "fit and change differently, so that it is open which was carried out";
+        Some(format!("            depending on step {}, {step}: {} {how}", number + 1, places.join(" and ")))
     }
 
     fn superfluous_words(&self) -> Vec<String> {

@@ -2,12 +2,11 @@
 
 use std::path::Path;
 
-use super::after::walk;
+use super::after::{steps_of, walk};
 use super::{count, one_file, one_standard_input, subject, Answer, Command};
 use crate::arguments::{wrong, Arguments};
 use crate::draw::{picture, Options, MOST_STATES};
 use crate::input::{Failure, Subject};
-use crate::notation::parse_steps;
 
 pub fn draw(arguments: &Arguments) -> Result<Answer, Failure> {
     let file = one_file(arguments, Command::Draw)?;
@@ -48,8 +47,11 @@ fn path(subject: &Subject, arguments: &Arguments) -> Result<Option<Vec<u8>>, Fai
         (None, None) => Ok(None),
         (Some(_), Some(_)) => Err(wrong("either `--finding` or `--after` is given, not both", Some(Command::Draw))),
         (None, Some(steps)) => {
-            let steps = parse_steps(&subject.names, std::slice::from_ref(steps))
-                .map_err(|message| wrong(&message, Some(Command::Draw)))?;
+            let words: Vec<String> = match steps.strip_prefix("state ") {
+                Some(number) => vec!["state".to_string(), number.trim().to_string()],
+                None => vec![steps.clone()],
+            };
+            let steps = steps_of(subject, &words, Command::Draw)?;
             walk(subject, &steps)?;
             Ok(Some(steps))
         }

@@ -11,6 +11,7 @@ use crate::input::{read, Failure, Subject};
 use crate::json::Json;
 use crate::library;
 use crate::names::Names;
+use crate::reorder::{in_order_of, sorted};
 
 /// Books that are equal, and the files that have them.
 struct Group<'a> {
@@ -70,7 +71,13 @@ struct Groups<'a> {
     /// The groups whose books have a checksum. It keeps apart what cannot be
     /// equal; that books are equal is said by the library alone.
     by_checksum: HashMap<u64, Vec<usize>>,
+    /// The texts with the same names in any order, by the book that they have in the
+    /// order of the alphabet; each with its group.
+    by_names: HashMap<InOrder, Vec<(&'a str, usize)>>,
 }
+
+/// Events, values and book of a text in the order of the alphabet.
+type InOrder = (Vec<String>, Vec<Vec<String>>, Vec<u8>);
 
 impl<'a> Groups<'a> {
     fn add(&mut self, file: &'a str, subject: &Subject) {
@@ -85,6 +92,23 @@ impl<'a> Groups<'a> {
             self.groups.len() - 1
         });
         self.groups[group].add(file, subject.named.then_some(&subject.names));
+        if let (Some(_), Some(policy)) = (&subject.document.text, &subject.policy) {
+            let names = sorted(&subject.names);
+            let ordered = in_order_of(policy, &subject.names, &names);
+            if let Some(Ok(book)) = ordered.map(|policy| library::build(&policy.encode())) {
+                let values = names.fields.into_iter().map(|field| field.values).collect();
+                self.by_names.entry((names.events, values, book)).or_default().push((file, group));
+            }
+        }
+    }
+
+    /// Texts that say the same, though their books differ, since they declare their
+    /// names in different orders.
+    fn same_by_names(&self) -> Vec<Vec<&'a str>> {
+        let alike = self.by_names.values().filter(|files| files.iter().any(|(_, group)| *group != files[0].1));
+        let mut alike: Vec<Vec<&str>> = alike.map(|files| files.iter().map(|(file, _)| *file).collect()).collect();
+        alike.sort();
+        alike
     }
 
     fn words(&self, failures: usize) -> String {
@@ -109,6 +133,9 @@ impl<'a> Groups<'a> {
             lines.push("unlike every other book:".to_string());
             lines.extend(single.iter().map(|file| format!("  {file}")));
         }
+        for files in self.same_by_names() {
+            lines.push(format!("different books, but the same by names, in another order: {}", files.join(", ")));
+        }
         let files = self.groups.iter().map(|group| group.files.len()).sum();
         let refused = if failures == 0 { String::new() } else { format!("; {} left out", count(failures, "file")) };
         lines.push(format!("{}; {} if equal ones are kept once{refused}", count(files, "book"), self.groups.len()));
@@ -125,6 +152,10 @@ impl<'a> Groups<'a> {
         };
         Json::Object(vec![
             ("groups", self.groups.iter().map(group).collect()),
+            (
+                "same_by_names",
+                self.same_by_names().into_iter().map(|files| files.into_iter().collect::<Json>()).collect(),
+            ),
             ("failures", failures.iter().map(|failure| failure.json.clone()).collect()),
         ])
     }

@@ -1,9 +1,9 @@
 //! `way`: the earliest history after which a request has an outcome.
 
-use super::{answer, count, history_json, one_standard_input, request_json, subject, Answer, Command};
+use super::{after_words, answer, count, history_json, one_standard_input, request_json, subject, Answer, Command};
 use crate::arguments::{wrong, Arguments};
 use crate::book::Outcome;
-use crate::input::Failure;
+use crate::input::{Failure, Subject};
 use crate::json::Json;
 use crate::library;
 use crate::notation::parse_request;
@@ -33,7 +33,7 @@ pub fn way(arguments: &Arguments) -> Result<Answer, Failure> {
     })?;
     let what = format!("{} {}", names.request(request), outcome.words());
     let words = match &found {
-        None => format!("there is no history after which {what}\n"),
+        None => format!("there is no history after which {what}\n{}", instead(&subject, request, outcome)?),
         Some(history) if history.is_empty() => format!("already at the start {what}\n"),
         Some(history) => {
             format!("{what}, at the earliest after {}: {}\n", count(history.len(), "step"), names.history(history))
@@ -46,4 +46,15 @@ pub fn way(arguments: &Arguments) -> Result<Answer, Failure> {
         ("history", found.as_ref().map_or(Json::Null, |history| history_json(names, history))),
     ]);
     Ok(answer(arguments, u8::from(found.is_none()), words, json))
+}
+
+/// Where a request is never accepted only, or rejected only: whether it may be both.
+fn instead(subject: &Subject, request: usize, outcome: Outcome) -> Result<String, Failure> {
+    if outcome != Outcome::Accept && outcome != Outcome::Reject {
+        return Ok(String::new());
+    }
+    let found = library::way(subject.book.bytes(), request, Outcome::Both.number());
+    Ok(found.map_err(|number| subject.refused_again(number))?.map_or(String::new(), |history| {
+        format!("but {} it {}\n", after_words(&subject.names, &history), Outcome::Both.words())
+    }))
 }

@@ -28,8 +28,8 @@ const TAGS: [Meaning; 6] = [
         "conflict",
         Kind::Both,
         [
-            "may be both accepted and rejected; each of them stands below it or at an arrow",
-            "may be both accepted and rejected; each of them stands below it or has a number",
+            "may be both accepted and rejected; where each leads is said below it or by an arrow",
+            "may be both accepted and rejected; where each leads is said below it or by a numbered step",
         ],
     ),
     ("both: conflict", Kind::Both, ["may be both accepted and rejected, and what follows is the same"; 2]),

@@ -16,7 +16,7 @@ pub fn did_you_mean_word(word: &str, words: &[&'static str]) -> String {
 
 fn nearest<'a>(word: &str, candidates: impl IntoIterator<Item = &'a str>) -> Option<&'a str> {
     let near = candidates.into_iter().map(|candidate| (distance(word, candidate), candidate));
-    let allowed = if word.chars().count() < 5 { 1 } else { 2 };
+    let allowed = if word.chars().count() < 7 { 1 } else { 2 };
     let nearest = near.filter(|&(distance, _)| distance <= allowed).min_by_key(|&(distance, _)| distance);
     nearest.map(|(_, candidate)| candidate)
 }
@@ -38,31 +38,42 @@ pub fn of_other_field(names: &Names, field: usize, word: &str) -> String {
                 true => "values of one field are joined by `or`".to_string(),
                 false => {
                     let order: Vec<String> = names.fields.iter().map(|field| quoted(&field.name)).collect();
-                    format!("a rule has a part for each field, in their order: {}", order.join(", "))
+                    format!("the order of the fields is {}", order.join(", "))
                 }
             };
             format!("{} is a value of the field {}; {how}", quoted(word), quoted(&names.fields[other].name))
         }
-        _ => did_you_mean(word, names.fields[field].values.iter().map(String::as_str)),
+        _ if names.events.iter().any(|event| event == word) => format!("{} is an event", quoted(word)),
+        _ => match word {
+            "all" | "anybody" | "anyone" | "every" | "everybody" | "everyone" | "everything" => {
+                "write `any`".to_string()
+            }
+            "nobody" | "none" | "nothing" => "write `any`, and `reject`".to_string(),
+            "not" | "except" | "but" => "the values that are meant are named, joined by `or`".to_string(),
+            _ => did_you_mean(word, names.fields[field].values.iter().map(String::as_str)),
+        },
     }
 }
 
-/// How many letters must be put in, left out or changed to come from one word to
-/// the other; capital and small letters count as the same.
+/// How many letters must be put in, left out, changed or exchanged with the next to
+/// come from one word to the other; capital and small letters count as the same.
 fn distance(one: &str, other: &str) -> usize {
     let letters = |word: &str| word.to_lowercase().chars().collect::<Vec<char>>();
     let (one, other) = (letters(one), letters(other));
-    let mut row: Vec<usize> = (0..=other.len()).collect();
-    for (i, letter) in one.iter().enumerate() {
-        let mut diagonal = row[0];
-        row[0] = i + 1;
-        for (j, opposite) in other.iter().enumerate() {
-            let changed = diagonal + usize::from(letter != opposite);
-            diagonal = row[j + 1];
-            row[j + 1] = changed.min(diagonal + 1).min(row[j] + 1);
+    let mut rows: Vec<Vec<usize>> = vec![(0..=other.len()).collect()];
+    for i in 1..=one.len() {
+        let mut row = vec![i];
+        for j in 1..=other.len() {
+            let changed = rows[i - 1][j - 1] + usize::from(one[i - 1] != other[j - 1]);
+            let mut least = changed.min(rows[i - 1][j] + 1).min(row[j - 1] + 1);
+            if i > 1 && j > 1 && one[i - 1] == other[j - 2] && one[i - 2] == other[j - 1] {
+                least = least.min(rows[i - 2][j - 2] + 1);
+            }
+            row.push(least);
         }
+        rows.push(row);
     }
-    row[other.len()]
+    rows[one.len()][other.len()]
 }
 
 #[cfg(test)]
@@ -72,7 +83,7 @@ mod tests {
     #[test]
     fn distances() {
         for (one, other, number) in
-            [("", "", 0), ("a", "", 1), ("reader", "Reader", 0), ("reader", "raeder", 2), ("copy", "copies", 3)]
+            [("", "", 0), ("a", "", 1), ("reader", "Reader", 0), ("reader", "raeder", 1), ("copy", "copies", 3)]
         {
             assert_eq!(distance(one, other), number, "{one} {other}");
             assert_eq!(distance(other, one), number, "{other} {one}");
@@ -84,6 +95,7 @@ mod tests {
         assert_eq!(did_you_mean("Scholar", ["visitor", "scholar"]), "did you mean scholar?");
         assert_eq!(did_you_mean("scholars", ["visitor", "scholar"]), "did you mean scholar?");
         assert_eq!(did_you_mean("guest", ["visitor", "scholar"]), "");
+        assert_eq!(did_you_mean("sunday", ["monday"]), "");
         assert_eq!(did_you_mean("a1", ["b2", "c3"]), "");
     }
 }

@@ -10,6 +10,7 @@ mod statements;
 mod steps;
 mod token;
 
+pub use hints::did_you_mean_word;
 pub use mistake::Mistake;
 pub use parse::{parse, Text};
 pub use print::{print, rule_words};

@@ -79,6 +79,10 @@ impl Parser {
             if mask != 0 && self.peek().is("any") {
                 return Err(self.expected_since("a single value", "`any` is all of them, and stands alone"));
             }
+            let found = self.peek();
+            if ["accept", "and", "reject", "when"].iter().any(|word| found.is(word)) {
+                return Err(self.expected(&self.values_expected(field)));
+            }
             let name = self.name(&self.values_expected(field))?;
             let values = &self.names.fields[field].values;
             let Some(value) = values.iter().position(|value| *value == name.text) else {
@@ -115,6 +119,7 @@ impl Parser {
         let is_event = token.kind == Kind::Name && self.names.events.contains(&token.text);
         let why = match token.kind {
             Kind::Number(_) => "the variable comes first, as in `copies < 2`".to_string(),
+            _ if token.text == "not" => "that something is not so is tested as `vouched < 1`".to_string(),
             _ if is_event => format!("{} is an event, which a variable can count", token.shown()),
             _ if self.names.variables.is_empty() => "none is declared before this".to_string(),
             // a word of the notation, which as a name has quotes
@@ -193,6 +198,7 @@ impl Parser {
         let tested = tests.iter().any(|test| *test != Test::default());
         let after_any = self.last().is_some_and(|last| last.is("any"));
         let found = self.peek();
+        let names = found.kind == Kind::Name && self.last().is_some_and(|last| last.kind == Kind::Name);
         let what = match (tested, after_any) {
             (true, _) => "`and`, `accept` or `reject`",
             (false, true) => "`when`, `accept` or `reject`",
@@ -203,6 +209,10 @@ impl Parser {
             "if" => "write `when`",
             "accepted" | "accepts" => "write `accept`",
             "rejected" | "rejects" => "write `reject`",
+            "after" | "before" | "unless" | "until" => {
+                "what has happened is kept in a variable, as in `when vouched >= 1`"
+            }
+            _ if names => "a name of several words stands in quotes",
             _ => self.and_for_or(),
         };
         Err(self.expected_since(what, why))

@@ -57,6 +57,7 @@ impl Parser {
         let why = match found.text.as_str() {
             "when" | "if" => "`when` and its tests stand before the decision",
             "/" => "`#` begins a comment",
+            "=" => "where a variable begins is said as `copies from 2`",
             _ if names => "a name of several words stands in quotes",
             _ => "",
         };
@@ -175,11 +176,15 @@ impl Parser {
         let mut changes = vec![Change::Nothing; self.names.variables.len()];
         let mut changed = Vec::new();
         loop {
-            if self.peek().is(",") {
-                return Err(self.expected_since("a change", "each event has its own `on`"));
-            }
-            if self.peek().is("accept") || self.peek().is("reject") {
-                return Err(self.expected_since("a change", "an event changes variables; decisions stand in rules"));
+            let found = self.peek();
+            let why = match found.text.as_str() {
+                "," => "each event has its own `on`",
+                "when" => "an event always changes the same; tests stand in rules",
+                "accept" | "reject" => "an event changes variables; decisions stand in rules",
+                _ => "",
+            };
+            if found.kind != Kind::Name && !why.is_empty() {
+                return Err(self.expected_since("a change", why));
             }
             let variable = self.change(&mut changes, "")?;
             changed.push((variable, changes[variable]));

@@ -1,5 +1,6 @@
 //! Steps and requests on the command line, by names or by numbers.
 
+use super::hints::{did_you_mean, of_other_field};
 use super::token::{list, quoted, tokens, Kind, Token};
 use crate::frame::Step;
 use crate::names::Names;
@@ -139,6 +140,24 @@ impl Reader<'_> {
         Ok(frame.code(Step::Decided { request, accepted }))
     }
 
+    /// What may have been meant by a word that is no value of a field.
+    fn why_not(&self, field: usize) -> String {
+        let found = self.peek();
+        let why = match found.kind {
+            Kind::End => String::new(),
+            _ if found.is("any") => "one request at a time is asked for".to_string(),
+            _ if field == 0 && did_you_mean(&found.text, self.names.events.iter().map(String::as_str)).is_empty() => {
+                of_other_field(self.names, field, &found.text)
+            }
+            _ if field == 0 => did_you_mean(&found.text, self.names.events.iter().map(String::as_str)),
+            _ => of_other_field(self.names, field, &found.text),
+        };
+        match why.is_empty() {
+            true => why,
+            false => format!(": {why}"),
+        }
+    }
+
     /// A step by its code, a number behind the word `code`.
     fn code(&mut self) -> Result<usize, String> {
         self.at += 1;
@@ -161,6 +180,7 @@ impl Reader<'_> {
                 _ => field.values.iter().position(|name| *name == self.peek().text),
             };
             let Some(value) = found else {
+                let why = self.why_not(number);
                 let mut what = format!("a value of the field {} ({})", quoted(&field.name), list(&field.values));
                 if !or_event && number == 0 {
                     what = format!("a request, which begins with {what}");
@@ -168,7 +188,7 @@ impl Reader<'_> {
                 if or_event && number == 0 && !self.names.events.is_empty() {
                     what = format!("an event ({}) or {what}", list(&self.names.events));
                 }
-                return Err(self.expected(&what));
+                return Err(format!("{}{why}", self.expected(&what)));
             };
             values.push(value);
             self.at += 1;
