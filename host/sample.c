@@ -106,10 +106,11 @@ static int compare(const char *first_name, struct bytes first, const char *secon
     uint64_t answer = policybook_compare(first.data, first.length, second.data, second.length, history, POLICYBOOK_HISTORY_SIZE);
     int refused = is_refused("comparison", answer);
     size_t length = (size_t)policybook_value_of(answer);
+    const char *name = !refused && policybook_after(first.data, history, length) != 0 ? first_name : second_name;
     if (!refused && length == 0) {
         printf("comparison: the same histories are possible under both\n");
     } else if (!refused) {
-        printf("comparison: the earliest history possible under just one of them, %s: ", policybook_after(first.data, history, length) != 0 ? first_name : second_name);
+        printf("comparison: the earliest history possible under just one of them, %s: ", name);
         print_history(first.data, history, length);
     }
     free(history);

@@ -49,7 +49,7 @@ fn whom_a_rule_is_for() {
             "rule copy, reader accept",
             6,
             "copy",
-            "expected a value of the field person (reader, trainee, staff, or any), found `copy`: copy is a value of the field action; a rule has a part for each field, in their order: person, action",
+            "expected a value of the field person (reader, trainee, staff, or any), found `copy`: copy is a value of the field action; the order of the fields is person, action",
         ),
         (
             "rule reader copy accept",
@@ -84,7 +84,12 @@ fn when_a_rule_applies() {
 #[test]
 fn what_a_rule_or_an_event_does() {
     check_fifth_lines(&[
-        ("rule reader, copy permit", 19, "permit", "expected `or`, `when`, `accept` or `reject`, found `permit`"),
+        (
+            "rule reader, copy permit",
+            19,
+            "permit",
+            "expected `or`, `when`, `accept` or `reject`, found `permit`: write `accept`",
+        ),
         ("rule any, copy accept copies + 1", 23, "copies", "expected `,` or the next statement, found `copies`"),
         ("rule any, copy accept, copies + 2", 33, "2", "expected `copies + 1`, found `2`: a change adds one"),
         ("on midnite copies to 0", 4, "midnite", "expected an event (midnight, complaint), found `midnite`"),
@@ -191,7 +196,7 @@ fn every_command_tells_the_mistake_and_writes_nothing() {
     let good = folder.file("good.txt", "field a = b, c\nrule b accept\n");
     let out = folder.name("out");
     let told = format!(
-        "{bad}:2:8: expected `or`, `when`, `accept` or `reject`, found `acept`\n    rule b acept\n           ^^^^^\n"
+        "{bad}:2:8: expected `or`, `when`, `accept` or `reject`, found `acept`: did you mean `accept`?\n    rule b acept\n           ^^^^^\n"
     );
     for words in [
         &["check", &bad][..],

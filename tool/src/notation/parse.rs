@@ -129,6 +129,11 @@ impl Parser {
         self.at > 0 && self.peek().line == self.tokens[self.at - 1].line
     }
 
+    /// The token behind the next one.
+    pub fn after_next(&self) -> &Token {
+        &self.tokens[(self.at + 1).min(self.tokens.len() - 1)]
+    }
+
     /// The token before the next one.
     pub fn last(&self) -> Option<&Token> {
         self.at.checked_sub(1).map(|before| &self.tokens[before])

@@ -1,6 +1,6 @@
 //! The statement `rule`: for whom and what, when, the decision, and what changes.
 
-use super::hints::{closest, of_other_field};
+use super::hints::{closest, did_you_mean_word, of_other_field};
 use super::parse::Parser;
 use super::statements::Item;
 use super::token::{list, quoted, Kind, Token};
@@ -197,25 +197,32 @@ impl Parser {
         }
         let tested = tests.iter().any(|test| *test != Test::default());
         let after_any = self.last().is_some_and(|last| last.is("any"));
-        let found = self.peek();
-        let names = found.kind == Kind::Name && self.last().is_some_and(|last| last.kind == Kind::Name);
         let what = match (tested, after_any) {
             (true, _) => "`and`, `accept` or `reject`",
             (false, true) => "`when`, `accept` or `reject`",
             (false, false) => "`or`, `when`, `accept` or `reject`",
         };
+        Err(self.expected_since(what, &self.instead_of_decision(tested)))
+    }
+
+    /// What may have been meant by a word that stands where the decision is expected.
+    fn instead_of_decision(&self, tested: bool) -> String {
+        let found = self.peek();
+        let names = found.kind == Kind::Name && self.last().is_some_and(|last| last.kind == Kind::Name);
+        let goes_on = ["when", "accept", "reject", "or"].iter().any(|word| self.after_next().is(word));
         let why = match found.text.as_str() {
             "or" if tested => "for `or` write two rules",
             "if" => "write `when`",
-            "accepted" | "accepts" => "write `accept`",
-            "rejected" | "rejects" => "write `reject`",
+            "accepted" | "accepts" | "allow" | "allowed" | "grant" | "permit" | "permitted" => "write `accept`",
+            "denied" | "deny" | "forbid" | "refuse" | "refused" | "rejected" | "rejects" => "write `reject`",
             "after" | "before" | "unless" | "until" => {
                 "what has happened is kept in a variable, as in `when vouched >= 1`"
             }
-            _ if names => "a name of several words stands in quotes",
+            _ if names && goes_on => "a name of several words stands in quotes",
+            _ if found.kind == Kind::Name => return did_you_mean_word(&found.text, &["accept", "reject", "when"]),
             _ => self.and_for_or(),
         };
-        Err(self.expected_since(what, why))
+        why.to_string()
     }
 
     /// A word on `and` where values are listed.
