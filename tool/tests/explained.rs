@@ -5,6 +5,7 @@ mod common;
 
 use std::collections::BTreeSet;
 
+use common::run::{run, Folder};
 use common::{policy_file, Met, Random};
 use policybook::explain::{self, Deciding, Idle};
 use policybook::policy::Policy;
@@ -127,4 +128,50 @@ fn idle_rules_never_fit_or_never_apply() {
         }
     }
     met.each_at_least(20);
+}
+
+/// The line of `after` that says what the variables have come to.
+fn variables_line(situation: &Situation, variables: usize) -> String {
+    let words = |valuation: &Valuation| -> String {
+        let values = valuation[..variables].iter().enumerate();
+        values.map(|(number, value)| format!("v{number} {value}")).collect::<Vec<String>>().join(", ")
+    };
+    format!("  variables: {}", situation.iter().map(words).collect::<Vec<String>>().join("; or "))
+}
+
+#[test]
+fn it_is_open_which_rule_was_carried_out() {
+    let folder = Folder::new("open");
+    let mut met = Met::default();
+    for seed in 0..FILES / 4 {
+        let (bytes, input) = policy_file(seed);
+        let (Ok(read), Ok(_)) = (policy::read(&bytes), reference::book::build(&bytes)) else {
+            continue;
+        };
+        let own = Policy::decode(&bytes).expect(&input);
+        let (history, after) = walk(&read, &mut Random::new(seed, "open"));
+        let steps = Steps::new(&read);
+        let mut situation = start(&read);
+        let forks = history.iter().position(|&code| {
+            situation = steps.after(&situation, code.into()).expect("a possible step");
+            situation.len() > 1
+        });
+        let found = explain::first_fork(&own, &history);
+        assert_eq!(found.as_ref().map(|(number, _)| *number), forks, "{input}");
+        if let Some((number, rules)) = found {
+            let changes: BTreeSet<String> =
+                rules.iter().map(|&rule| format!("{:?}", own.rules[rule].changes)).collect();
+            assert!(changes.len() > 1, "{input}: step {number}");
+        }
+        met.note("open", forks.is_some());
+        met.note("not open", forks.is_none());
+        if seed % 4 == 0 && read.variables > 0 {
+            let file = folder.file(&seed.to_string(), &bytes);
+            let words: Vec<String> = history.iter().map(|code| format!("code {code}")).collect();
+            let ran = run(&["after", &file, &words.join(", ")], b"");
+            let line = ran.text().lines().nth(1).expect("a second line").to_string();
+            assert_eq!(line, variables_line(&after, read.variables), "{input}");
+        }
+    }
+    met.each_at_least(30);
 }

@@ -10,6 +10,7 @@ use common::{Met, Random};
 use policybook::names::Names;
 use policybook::notation::print;
 use policybook::policy::Policy;
+use policybook::reorder::same_order;
 use reference::book::{build, Book};
 use reference::compare::{compare_books, Comparison};
 use reference::generate;
@@ -66,6 +67,34 @@ fn check(files: [&str; 2], books: [&Book; 2], input: &str) -> bool {
     false
 }
 
+/// A policy file or book to which `--names` gives names is compared by them, from
+/// either side; without names, by its order, and that is said.
+fn check_without_names(one: &str, bytes: &str, names: &str, same: bool) {
+    let book = format!("{bytes}-book");
+    assert_eq!(run(&["build", bytes, "-o", &book], &[]).status, 0);
+    for file in [bytes, &book] {
+        for files in [[one, file], [file, one]] {
+            let ran = run(&["compare", "--json", "--names", names, files[0], files[1]], &[]);
+            assert_eq!(ran.status, i32::from(!same), "{file}");
+            assert_eq!(*read(ran.text()).get("by_order"), Value::Bool(false), "{file}");
+        }
+        let ran = run(&["compare", one, file], &[]);
+        assert!(ran.status == 2 || ran.text().contains("compared by the order"), "{file}");
+    }
+}
+
+/// The inventory tells books by their bytes, and beside it which texts say the same
+/// in another order of names.
+fn check_inventory(one: &str, other: &str, same: bool, same_order: bool, equal: bool) {
+    let found = read(run(&["inventory", "--json", one, other], &[]).text());
+    let in_one_group = found.get("groups").list().len() == 1;
+    if same_order {
+        assert_eq!(in_one_group, equal, "{one}");
+    }
+    let told: Vec<usize> = found.get("same_by_names").list().iter().map(|files| files.list().len()).collect();
+    assert_eq!(told, if same && !in_one_group { vec![2] } else { Vec::new() }, "{one}");
+}
+
 #[test]
 fn the_order_of_declarations_does_not_matter() {
     let folder = Folder::new("reordered");
@@ -86,8 +115,11 @@ fn the_order_of_declarations_does_not_matter() {
         let (other, other_names) = reordered(&other, &names_of_other, &mut random);
         met.note("another order", other_names.fields != names.fields);
         let one = folder.file(&format!("{number}-one"), print(&one, &names, &[]));
+        let bytes = folder.file(&format!("{number}-bytes"), other.encode());
         let other = folder.file(&format!("{number}-other"), print(&other, &other_names, &[]));
         let same = check([&one, &other], [&first, &second], &format!("pair {number}"));
+        check_without_names(&one, &bytes, &other, same);
+        check_inventory(&one, &other, same, same_order(&names, &other_names), first == second);
         met.note("same", same);
         met.note("different", !same);
     }
