@@ -150,14 +150,14 @@ fn read_bytes(name: &str) -> io::Result<Vec<u8>> {
 fn decode_text<'a>(name: &str, bytes: &'a [u8]) -> Result<&'a str, Failure> {
     let neither = |at: usize| {
         let line = bytes[..at].iter().filter(|&&byte| byte == b'\n').count() + 1;
-        Failure::of_file(
-            name,
-            format!(
-                "is neither a policy file, which begins with POL, nor a book, which begins with BOK, nor a text in UTF-8: \
-                 byte {at}, on line {line}, is {:02X}; a text is saved as UTF-8",
-                bytes[at]
-            ),
-        )
+        let number = |refused: Option<u8>| refused.map_or("none".to_string(), |number| number.to_string());
+        let (policy, book) = (number(library::build(bytes).err()), number(library::verdict(bytes).err()));
+        let message = format!(
+            "is neither a policy file, which begins with POL, nor a book, which begins with BOK, nor a text in UTF-8\n    \
+             byte {at}, on line {line}, is {:02X}; as a policy file it is refused by number {policy}, as a book by number {book}",
+            bytes[at]
+        );
+        Failure::of_file(name, message)
     };
     if let Some(at) = bytes.iter().position(|&byte| byte == 0) {
         return Err(neither(at));
