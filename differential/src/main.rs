@@ -6,13 +6,13 @@
 //! the first difference of a call is shown with the command that makes its input again. Exit status 1 if there is any.
 
 mod expected;
-mod library;
 mod same;
 mod ways;
 
 use std::collections::BTreeMap;
 use std::process::ExitCode;
 
+use policybook::calls as library;
 use reference::generate::{self, Random};
 use same::sames;
 use ways::Ways;

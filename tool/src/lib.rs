@@ -3,6 +3,7 @@
 
 pub mod arguments;
 pub mod book;
+pub mod calls;
 pub mod commands;
 pub mod draw;
 pub mod explain;

@@ -1,39 +1,7 @@
-//! The proved library through its C interface (`host/policybook.h`): what alone
-//! builds, judges, compares, writes pages and finds ways.
+//! The proved library, which alone builds, judges, compares, writes pages and finds
+//! ways: its answers taken apart.
 
-mod foreign {
-    extern "C" {
-        pub fn policybook_build(policy: *const u8, policy_len: usize, book: *mut u8, book_len: usize) -> u64;
-        pub fn policybook_verdict(
-            book: *const u8,
-            book_len: usize,
-            conflict: *mut u8,
-            conflict_len: usize,
-            missing: *mut u8,
-            missing_len: usize,
-            blocked: *mut u8,
-            blocked_len: usize,
-        ) -> u64;
-        pub fn policybook_compare(
-            first: *const u8,
-            first_len: usize,
-            second: *const u8,
-            second_len: usize,
-            history: *mut u8,
-            history_len: usize,
-        ) -> u64;
-        pub fn policybook_page(book: *const u8, book_len: usize, page: *mut u8, page_len: usize) -> u64;
-        pub fn policybook_way(
-            book: *const u8,
-            book_len: usize,
-            request: usize,
-            outcome: usize,
-            history: *mut u8,
-            history_len: usize,
-        ) -> u64;
-        pub fn policybook_same_bytes(first: *const u8, first_len: usize, second: *const u8, second_len: usize) -> u64;
-    }
-}
+use crate::calls;
 
 const BOOK_SIZE: usize = 17_284;
 const FINDING_SIZE: usize = 128;
@@ -70,9 +38,8 @@ fn value(answer: u64) -> Result<u64, Number> {
 /// Builds the book of a policy file.
 pub fn build(policy: &[u8]) -> Result<Vec<u8>, Number> {
     let mut book = vec![0; BOOK_SIZE];
-    // SAFETY: each pointer is valid for its length, and a `&mut` overlaps with nothing else.
-    let answer = unsafe { foreign::policybook_build(policy.as_ptr(), policy.len(), book.as_mut_ptr(), book.len()) };
-    book.truncate(value(answer)? as usize);
+    let length = value(calls::build(policy, &mut book))?;
+    book.truncate(length as usize);
     Ok(book)
 }
 
@@ -81,20 +48,7 @@ pub fn verdict(book: &[u8]) -> Result<Findings, Number> {
     let mut conflict = [0; FINDING_SIZE];
     let mut missing = [0; FINDING_SIZE];
     let mut blocked = [0; FINDING_SIZE];
-    // SAFETY: as for build.
-    let answer = unsafe {
-        foreign::policybook_verdict(
-            book.as_ptr(),
-            book.len(),
-            conflict.as_mut_ptr(),
-            conflict.len(),
-            missing.as_mut_ptr(),
-            missing.len(),
-            blocked.as_mut_ptr(),
-            blocked.len(),
-        )
-    };
-    let value = value(answer)?;
+    let value = value(calls::verdict(book, &mut conflict, &mut missing, &mut blocked))?;
     Ok(Findings {
         conflict: finding(value, 0, &conflict),
         missing: finding(value, 16, &missing),
@@ -114,18 +68,7 @@ fn finding(value: u64, bit: u32, buffer: &[u8]) -> Option<Finding> {
 /// histories are possible in both.
 pub fn compare(first: &[u8], second: &[u8]) -> Result<Option<Vec<u8>>, Number> {
     let mut history = vec![0; HISTORY_SIZE];
-    // SAFETY: as for build.
-    let answer = unsafe {
-        foreign::policybook_compare(
-            first.as_ptr(),
-            first.len(),
-            second.as_ptr(),
-            second.len(),
-            history.as_mut_ptr(),
-            history.len(),
-        )
-    };
-    let length = value(answer)? as usize;
+    let length = value(calls::compare(first, second, &mut history))? as usize;
     history.truncate(length);
     Ok((length > 0).then_some(history))
 }
@@ -133,25 +76,19 @@ pub fn compare(first: &[u8], second: &[u8]) -> Result<Option<Vec<u8>>, Number> {
 /// The page of a book.
 pub fn page(book: &[u8]) -> Result<Vec<u8>, Number> {
     let mut page = vec![0; PAGE_SIZE];
-    // SAFETY: as for build.
-    let answer = unsafe { foreign::policybook_page(book.as_ptr(), book.len(), page.as_mut_ptr(), page.len()) };
-    page.truncate(value(answer)? as usize);
+    let length = value(calls::page(book, &mut page))?;
+    page.truncate(length as usize);
     Ok(page)
 }
 
 /// The earliest history after which a request has an outcome; nothing if there is none.
 pub fn way(book: &[u8], request: usize, outcome: usize) -> Result<Option<Vec<u8>>, Number> {
     let mut history = [0; FINDING_SIZE];
-    // SAFETY: as for build.
-    let answer = unsafe {
-        foreign::policybook_way(book.as_ptr(), book.len(), request, outcome, history.as_mut_ptr(), history.len())
-    };
-    Ok(finding(value(answer)?, 0, &history).map(|found| found.history))
+    let value = value(calls::way(book, request, outcome, &mut history))?;
+    Ok(finding(value, 0, &history).map(|found| found.history))
 }
 
 /// Whether two byte strings are equal.
 pub fn same_bytes(first: &[u8], second: &[u8]) -> bool {
-    // SAFETY: each pointer is valid for its length, and nothing is written.
-    let answer = unsafe { foreign::policybook_same_bytes(first.as_ptr(), first.len(), second.as_ptr(), second.len()) };
-    answer == 1
+    calls::same_bytes(first, second) == 1
 }

@@ -1,13 +1,10 @@
-//! The proved library through its C interface (`host/policybook.h`).
+//! The six functions of the proved library as its C interface has them
+//! (`host/policybook.h`): buffers are lent, and the answer is one number. The tool and
+//! the differential test (`differential/`) call the library here.
 
 mod foreign {
     extern "C" {
-        pub fn policybook_build(
-            policy: *const u8,
-            policy_len: usize,
-            book: *mut u8,
-            book_len: usize,
-        ) -> u64;
+        pub fn policybook_build(policy: *const u8, policy_len: usize, book: *mut u8, book_len: usize) -> u64;
         #[allow(clippy::too_many_arguments)]
         pub fn policybook_verdict(
             book: *const u8,
@@ -27,12 +24,7 @@ mod foreign {
             history: *mut u8,
             history_len: usize,
         ) -> u64;
-        pub fn policybook_page(
-            book: *const u8,
-            book_len: usize,
-            page: *mut u8,
-            page_len: usize,
-        ) -> u64;
+        pub fn policybook_page(book: *const u8, book_len: usize, page: *mut u8, page_len: usize) -> u64;
         pub fn policybook_way(
             book: *const u8,
             book_len: usize,
@@ -41,21 +33,14 @@ mod foreign {
             history: *mut u8,
             history_len: usize,
         ) -> u64;
-        pub fn policybook_same_bytes(
-            first: *const u8,
-            first_len: usize,
-            second: *const u8,
-            second_len: usize,
-        ) -> u64;
+        pub fn policybook_same_bytes(first: *const u8, first_len: usize, second: *const u8, second_len: usize) -> u64;
     }
 }
 
 /// The answer of build on a policy; the book is written to the buffer.
 pub fn build(policy: &[u8], book: &mut [u8]) -> u64 {
     // SAFETY: each pointer is valid for its length, and a `&mut` overlaps with nothing else.
-    unsafe {
-        foreign::policybook_build(policy.as_ptr(), policy.len(), book.as_mut_ptr(), book.len())
-    }
+    unsafe { foreign::policybook_build(policy.as_ptr(), policy.len(), book.as_mut_ptr(), book.len()) }
 }
 
 /// The answer of verdict on a book; the histories are written to the buffers.
@@ -99,22 +84,11 @@ pub fn page(book: &[u8], page: &mut [u8]) -> u64 {
 /// The answer of way on a book, a request and an outcome; the history is written to the buffer.
 pub fn way(book: &[u8], request: usize, outcome: usize, history: &mut [u8]) -> u64 {
     // SAFETY: as for build.
-    unsafe {
-        foreign::policybook_way(
-            book.as_ptr(),
-            book.len(),
-            request,
-            outcome,
-            history.as_mut_ptr(),
-            history.len(),
-        )
-    }
+    unsafe { foreign::policybook_way(book.as_ptr(), book.len(), request, outcome, history.as_mut_ptr(), history.len()) }
 }
 
 /// The answer of same_bytes on two byte strings, which may overlap.
 pub fn same_bytes(first: &[u8], second: &[u8]) -> u64 {
     // SAFETY: each pointer is valid for its length, and nothing is written.
-    unsafe {
-        foreign::policybook_same_bytes(first.as_ptr(), first.len(), second.as_ptr(), second.len())
-    }
+    unsafe { foreign::policybook_same_bytes(first.as_ptr(), first.len(), second.as_ptr(), second.len()) }
 }
