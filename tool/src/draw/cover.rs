@@ -2,8 +2,8 @@
 //! says two requests at once, and `any` all values of a field.
 
 use crate::frame::Frame;
-use crate::names::Names;
-use crate::notation::quoted;
+use crate::names::{Field, Names};
+use crate::notation::value_words;
 
 /// Disjoint products, each a mask for each field, that together hold exactly the given
 /// requests. The largest product that fits is taken first, or the one that says `any` most
@@ -48,21 +48,12 @@ fn named_values(frame: &Frame, product: &[u16]) -> usize {
 
 /// A product in words, in the notation of the rules' text.
 pub fn words(names: &Names, product: &[u16]) -> String {
-    let full = |field: usize| product[field] == full_mask(names.fields[field].values.len());
-    let fields = 0..product.len();
-    if product.len() > 1 && fields.clone().all(full) {
+    let full = |(mask, field): (&u16, &Field)| *mask == full_mask(field.values.len());
+    if product.len() > 1 && product.iter().zip(&names.fields).all(full) {
         return "any request".to_string();
     }
-    let said = fields.map(|field| {
-        if full(field) {
-            return "any".to_string();
-        }
-        let values = names.fields[field].values.iter().enumerate();
-        let chosen = values.filter(|(value, _)| product[field] >> value & 1 == 1);
-        let chosen: Vec<String> = chosen.map(|(_, name)| quoted(name)).collect();
-        chosen.join(" or ")
-    });
-    said.collect::<Vec<String>>().join(", ")
+    let parts = product.iter().zip(&names.fields).map(|(mask, field)| value_words(*mask, &field.values));
+    parts.collect::<Vec<String>>().join(", ")
 }
 
 /// The mask of all values of a field that has so many.

@@ -13,6 +13,6 @@ mod token;
 pub use hints::did_you_mean_word;
 pub use mistake::Mistake;
 pub use parse::{parse, Text};
-pub use print::{print, rule_words};
+pub use print::{print, rule_words, value_words};
 pub use steps::{parse_request, parse_steps};
 pub use token::quoted;

@@ -138,7 +138,7 @@ pub fn rule_words(rule: &Rule, names: &Names) -> String {
 /// Whom a rule is for, when, and what it does.
 fn rule_parts(rule: &Rule, names: &Names) -> [String; 3] {
     let who: Vec<String> =
-        rule.masks.iter().zip(&names.fields).map(|(mask, field)| values(*mask, &field.values)).collect();
+        rule.masks.iter().zip(&names.fields).map(|(mask, field)| value_words(*mask, &field.values)).collect();
     let tests: Vec<String> = rule
         .tests
         .iter()
@@ -162,7 +162,7 @@ fn rule_parts(rule: &Rule, names: &Names) -> [String; 3] {
 }
 
 /// The values that a mask lets through.
-fn values(mask: u16, names: &[String]) -> String {
+pub fn value_words(mask: u16, names: &[String]) -> String {
     if u32::from(mask) == (1 << names.len()) - 1 {
         return "any".to_string();
     }
