@@ -1,2 +1,1 @@
-pub mod SameBytes
 pub mod Tellings

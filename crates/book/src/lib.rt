@@ -1,6 +1,5 @@
-// The bytes of a book: what stands where, what a state tells of a request, equal bytes. What refuses a book stands in the crate bookcheck.
+// The bytes of a book: what stands where, and what a state tells of a request. What refuses a book stands in the crate bookcheck.
 mod layout;
-mod same;
 mod telling;
 
 pub use layout::entry;
@@ -9,7 +8,5 @@ pub use layout::requests;
 pub use layout::states;
 pub use layout::width;
 pub use layout::width_from;
-pub use same::same_bytes;
-pub use same::same_frame;
 pub use telling::Telling;
 pub use telling::telling_at;

@@ -7,11 +7,11 @@ ghost use Rattle.definitions.specs.Answer.{given, written, historyBytes};
 ghost use Rattle.definitions.specs.Compare.{comparison, compareRefusal, compareAnswer, compareBuffer};
 ghost use Rattle.compare.specs.ComparedAnswer.{comparedAnswer};
 ghost use Rattle.comparepairs.specs.PairSearch.{BooksReady, Traced, differenceAt, spotted, Writable};
-use book::same_frame;
 use book::states;
 use bookcheck::refusal;
 use comparepairs::Spot;
 use comparepairs::first_difference;
+use samebytes::same_frame;
 use search::write_history;
 
 // What comparing returns: the number of the row that refuses the call, that the same histories are possible in both books, or the length of the

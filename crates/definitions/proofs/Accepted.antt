@@ -15,7 +15,8 @@ use Rattle.definitions.specs.Bytes.{byte, version}
 use Rattle.definitions.specs.Policy.{events, fields, variables, rules, count, requests, width, startingValue, exactLength, rule, mask, decision, ge, lt, change, eventChange}
 use Rattle.definitions.specs.Valuation.{valuations}
 use Rattle.definitions.specs.Book as B
-use Rattle.definitions.specs.Refusal.{versionHolds, rangesHold, countInRange, countsHold, startHolds, startsHold, rulePasses, allRules, maskHolds, ruleMasksHold, masksHold, testHolds, ruleHolds, eventChangeHolds, eventHolds, valuesHold, fileChecks, fileRefusal, situations, row11, policyRefusal, countHolds, headerHolds, layoutHolds, entryHolds, rowHolds, entriesHold, bookChecks, bookRefusal}
+use Rattle.definitions.specs.Refusal.{versionHolds, rangesHold, countInRange, countsHold, startHolds, startsHold, rulePasses, allRules, maskHolds, ruleMasksHold, masksHold, testHolds, ruleHolds, eventChangeHolds, eventHolds, valuesHold, fileChecks, fileRefusal, situations, row11, policyRefusal}
+use Rattle.definitions.specs.Refusal.{countHolds, headerHolds, layoutHolds, entryHolds, rowHolds, entriesHold, bookChecks, bookRefusal}
 use Rattle.definitions.proofs.Tests.{both-true, judge-zero, then-judge-zero, within-true, mark-true, version-true}
 use Rattle.definitions.proofs.CheckLists.{PassedBefore, rowTest, row-passes, rows-from}
 use Rattle.definitions.proofs.Radix.{product-some}

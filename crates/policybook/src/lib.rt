@@ -79,5 +79,5 @@ pub extern "C" fn policybook_way(
 pub extern "C" fn policybook_same_bytes(first: &[u8], second: &[u8]) -> u64
     ensures { λ r. ⌜ r ≡ equalOrNot (sameBytes (now (first .entry)) (now (second .entry))) ⌝ }
 {
-    pack_same_bytes(book::same_bytes(first, second))
+    pack_same_bytes(samebytes::same_bytes(first, second))
 }

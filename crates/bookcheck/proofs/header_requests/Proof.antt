@@ -53,10 +53,14 @@ returns-5 c = simp (lt-leb (requests (c .before .before .before .before .before 
 
 returns-6 : tie.Need-returns-6
 returns-6 c =
-    let fields-few = rw (c .before .before .before .before .before .before .before .before .before .wide .ensures .0) at (held _ _ (c .before .before .before .before .before .before .before .before .within .ensures) (c .before .before .before .before .before .before .before .if2 .left)) in
-    let counts = held _ _ (c .before .before .before .before .before .before .counts-hold .ensures) (c .before .before .before .before .before .if3 .left) in
-    let states-few = held _ _ (c .before .before .before .within2 .ensures) (c .before .before .if4 .left) in
-    header-last (c .before .before .before .before .before .before .before .before .before .before .before .before .before .before .args .book .now) _ _ _ (c .before .before .before .before .states .ensures) (c .before .before .before .before .before .before .before .before .before .before .before .before .events .ensures) (c .before .requests .ensures) (c .before .before .before .before .before .before .before .before .before .before .before .if1 .left) fields-few counts states-few (c .if5 .left)
+    let at-within2 = c .before .before .before in
+    let at-counts-hold = at-within2 .before .before .before in
+    let at-wide = at-counts-hold .before .before .before in
+    let at-events = at-wide .before .before .before in
+    let fields-few = rw (at-wide .wide .ensures .0) at (held _ _ (at-counts-hold .before .before .within .ensures) (at-counts-hold .before .if2 .left)) in
+    let counts = held _ _ (at-counts-hold .counts-hold .ensures) (at-within2 .before .before .if3 .left) in
+    let states-few = held _ _ (at-within2 .within2 .ensures) (c .before .before .if4 .left) in
+    header-last (at-events .before .before .args .book .now) _ _ _ (at-within2 .before .states .ensures) (at-events .events .ensures) (c .before .requests .ensures) (at-wide .before .before .if1 .left) fields-few counts states-few (c .if5 .left)
 
 pub header-requests-spec : {M : Type 1} → statement M
 header-requests-spec =

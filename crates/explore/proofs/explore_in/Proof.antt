@@ -109,7 +109,10 @@ visit-requires c κs =
     )
 
 same-length : tie.Need-same-length Inv-loop μ-loop
-same-length c = c .before .before .before .before .before .before .before .before .before .visit .kept .1 .1 .1 .0 ∙ searched-room (so-far (c .before .before .before .before .before .before .before .before .before .before .before .before .before .before .before .before) .search) ∙ simp length-set
+same-length c =
+    let at-visit = c .before .before .before .before .before .before .before .before .before in
+    let at-before = at-visit .before .before .before .before .before .before in
+    at-visit .visit .kept .1 .1 .1 .0 ∙ searched-room (so-far (at-before .before) .search) ∙ simp length-set
 
 same-length-2 : tie.Need-same-length-2 Inv-loop μ-loop
 same-length-2 c =

@@ -88,7 +88,10 @@ same-length-2 : tie.Need-same-length-2 Inv-loop μ-loop
 same-length-2 c = simp length-set (tried-row (tried (c .before .before .before .before .before .before .before .before .before .before .before) 0))
 
 same-length-3 : tie.Need-same-length-3 Inv-loop μ-loop
-same-length-3 c = long (c .before .before .before .before .before .before .before .before .before .before .before) ∙ sym (c .before .before .before .before .before .before .before .before .before .before .before .before .before .before .before .before .before .before .before .before .before .pre .0 .2)
+same-length-3 c =
+    let at-before = c .before .before .before .before .before .before .before .before .before .before in
+    let at-pre = at-before .before .before .before .before .before .before .before .before .before .before .before in
+    long (at-before .before) ∙ sym (at-pre .pre .0 .2)
 
 same-length-4 : tie.Need-same-length-4 Inv-loop μ-loop
 same-length-4 c = c .before .before .before .before .before .before .note .kept .1 .1 .1 .0 ∙ c .before .before .before .before .before .before .before .before .before .before .before .loop .inv .1

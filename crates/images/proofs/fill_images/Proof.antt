@@ -42,7 +42,10 @@ array-share-prefix-sets : tie.Need-array-share-prefix-sets
 array-share-prefix-sets c = omega (arith, requests-are (c .before .before .before .before .before .before .before .before .before .before .before .before .before), c .before .before .before .before .before .fill-matching .ensures .room)
 
 slice-aggregate-fill-rows-2 : tie.Need-slice-aggregate-fill-rows-2
-slice-aggregate-fill-rows-2 c = sym (length-take-le _ _ (omega (arith, requests-are (c .before .before .before .before .before .before .before .before .before .before .before .before .before .before), c .before .before .before .before .before .before .fill-matching .ensures .room)))
+slice-aggregate-fill-rows-2 c =
+    let at-fill-matching = c .before .before .before .before .before .before in
+    let at-before = at-fill-matching .before .before .before .before .before .before .before in
+    sym (length-take-le _ _ (omega (arith, requests-are (at-before .before), at-fill-matching .fill-matching .ensures .room)))
 
 slice-aggregate-fill-rows-3 : tie.Need-slice-aggregate-fill-rows-3
 slice-aggregate-fill-rows-3 c = search needs

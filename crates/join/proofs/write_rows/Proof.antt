@@ -45,9 +45,10 @@ state c = rw (c .wide .ensures .0) (c .before .before .before .before .before .b
 
 within : (c : tie.After-wide Inv-loop μ-loop) → (c .wide .result - 1) * c .before .before .before .before .before .before .before .before .args .w + c .before .before .before .before .before .before .before .before .args .w ≤ length (c .before .before .before .before .before .before .before .before .args .raw .now)
 within c =
-    let p = c .before .before .before .before .before .before .before .before in
+    let at-loop = c .before .before .before in
+    let p = at-loop .before .before .before .before .before in
     let a = p .args in
-    rw (c .wide .ensures .0) (order-row (a .raw .now) (a .w) (a .numbers .now) (a .order .now) (p .pre .0 .0) (p .pre .0 .1) (c .before .before .before .loop .i) (c .before .before .loop-test .taken))
+    rw (c .wide .ensures .0) (order-row (a .raw .now) (a .w) (a .numbers .now) (a .order .now) (p .pre .0 .0) (p .pre .0 .1) (at-loop .loop .i) (c .before .before .loop-test .taken))
 
 loop-holds : tie.Need-loop-holds Inv-loop μ-loop
 loop-holds c = (search needs, sym (laid-none 12 _))

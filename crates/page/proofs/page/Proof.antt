@@ -29,9 +29,10 @@ same-length c = search needs
 
 returns-3 : tie.Need-returns-3
 returns-3 c =
-    let a = c .before .before .before .before .before .before .before .before .before .args in
+    let at-if2 = c .before .before .before .before in
+    let a = at-if2 .before .before .before .before .before .args in
     let w = c .before .before .write-page .ensures in
-    page-given (a .book .now) (a .page .now) _ (c .before .before .before .before .if2 .left) (c .before .before .before .before .before .refusal .ensures ∙ refused-by-book (a .book .now) (a .page .now) (c .before .before .before .before .before .before .if1 .left)) _ _ (w .0) (w .1)
+    page-given (a .book .now) (a .page .now) _ (at-if2 .if2 .left) (at-if2 .before .refusal .ensures ∙ refused-by-book (a .book .now) (a .page .now) (at-if2 .before .before .if1 .left)) _ _ (w .0) (w .1)
 
 pub page-spec : {M : Type 1} → statement M
 page-spec =

@@ -72,10 +72,12 @@ loop-less c = search needs
 
 loop-again : tie.Need-loop-again Inv-loop μ-loop
 loop-again c =
-    let s = c .before .before .before .before .before .before .before .before .before .before .before .before in
-    let l = c .before .before .before .before .before .before .before .loop in
+    let at-wide = c .before .before .before .before in
+    let at-states = at-wide .before .before .before .before in
+    let s = at-states .before .before .before .before in
+    let l = at-wide .before .before .before .loop in
     let w = c .before .before .write-line in
-    lines-turn _ _ (s .pre .0 .0) (s .pre .1 .2) _ (c .before .before .before .before .before .before .before .before .states .ensures) (l .i) (l .page) (l .inv) (c .before .before .before .before .before .before .loop-test .taken) (s .args .depths .now) _ _ (s .pre .1 .1) (c .before .before .before .before .wide .ensures .0) (simp part-is-drop at (w .ensures))
+    lines-turn _ _ (s .pre .0 .0) (s .pre .1 .2) _ (at-states .states .ensures) (l .i) (l .page) (l .inv) (at-wide .before .before .loop-test .taken) (s .args .depths .now) _ _ (s .pre .1 .1) (at-wide .wide .ensures .0) (simp part-is-drop at (w .ensures))
 
 mul-result : tie.Need-mul-result Inv-loop μ-loop
 mul-result c = search needs

@@ -34,7 +34,10 @@ wide-requires-2 : tie.Need-wide-requires-2 Inv-loop μ-loop
 wide-requires-2 c κs = search needs
 
 shared-slice-read-if1-2 : tie.Need-shared-slice-read-if1-2 Inv-loop μ-loop
-shared-slice-read-if1-2 c = rw (c .before .wide2 .ensures .0) (c .before .before .before .before .before .before .before .before .before .before .before .pre .1 .1 (c .before .before .before .before .before .before .before .loop .c) (c .before .before .before .before .before .before .loop-test .taken))
+shared-slice-read-if1-2 c =
+    let at-loop-test = c .before .before .before .before .before .before in
+    let at-pre = at-loop-test .before .before .before .before .before in
+    rw (c .before .wide2 .ensures .0) (at-pre .pre .1 .1 (at-loop-test .before .loop .c) (at-loop-test .loop-test .taken))
 
 returns : tie.Need-returns Inv-loop μ-loop
 returns c =

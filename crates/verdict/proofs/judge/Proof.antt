@@ -84,10 +84,11 @@ same-length-3 c = search needs
 
 returns : tie.Need-returns
 returns c =
+    let at-pre = c .before .before .before .before .before .before .before .before .before .before .before .before .before .before .before .before .before .before .before .before .before .before .before .before .before .before .before .before .before .before .before in
     let x = c .before .before .before .before .before .before .before .before .before .before .before .before .before .before .find .ensures in
     let y = c .before .before .before .before .before .before .before .before .find2 .ensures in
     let z = c .before .before .find-blocked .ensures in
-    (answer-are _ _ _ _ (x .0) (y .0) (z .0), buffers-are _ _ _ _ (c .before .before .before .before .before .before .before .before .before .before .before .before .before .before .before .before .before .before .before .before .before .before .before .before .before .before .before .before .before .before .before .pre) _ _ _ (x .1) (y .1) (z .1))
+    (answer-are _ _ _ _ (x .0) (y .0) (z .0), buffers-are _ _ _ _ (at-pre .pre) _ _ _ (x .1) (y .1) (z .1))
 
 pub judge-spec : {M : Type 1} → statement M
 judge-spec =

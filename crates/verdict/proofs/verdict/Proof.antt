@@ -32,7 +32,10 @@ same-length-6 : tie.Need-same-length-6
 same-length-6 c = search needs
 
 returns-2 : tie.Need-returns-2
-returns-2 c = (answer-given _ _ _ _ _ (c .before .before .before .before .before .before .before .before .before .before .before .refused-by .ensures) (c .before .before .before .before .before .before .before .before .before .before .if1 .left) _ (c .before .before .before .before .before .before .judge .ensures .0), c .before .before .before .before .before .before .judge .ensures .1)
+returns-2 c =
+    let at-judge = c .before .before .before .before .before .before in
+    let at-if1 = at-judge .before .before .before .before in
+    (answer-given _ _ _ _ _ (at-if1 .before .refused-by .ensures) (at-if1 .if1 .left) _ (at-judge .judge .ensures .0), at-judge .judge .ensures .1)
 
 pub verdict-spec : {M : Type 1} → statement M
 verdict-spec =

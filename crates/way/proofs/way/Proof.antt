@@ -27,34 +27,40 @@ returns-2 c =
 
 returns-3 : tie.Need-returns-3
 returns-3 c =
-    let a = c .before .before .before .before .before .before .args in
-    way-refused (now (a .book)) (a .request) (a .outcome) (now (a .history)) 18 (refused-by-18 (now (a .book)) (a .request) (a .outcome) (now (a .history)) (c .before .before .before .if1 .left) _ (c .before .before .refusal .ensures) (c .before .if2 .left) (c .if3 .taken)) (λ e. omega arith)
+    let at-if1 = c .before .before .before in
+    let a = at-if1 .before .before .before .args in
+    way-refused (now (a .book)) (a .request) (a .outcome) (now (a .history)) 18 (refused-by-18 (now (a .book)) (a .request) (a .outcome) (now (a .history)) (at-if1 .if1 .left) _ (c .before .before .refusal .ensures) (c .before .if2 .left) (c .if3 .taken)) (λ e. omega arith)
 
 requests-requires : tie.Need-requests-requires
 requests-requires c κs = let p = passes (c .before) in (p .long, p .layout .header .fieldsMost)
 
 returns-4 : tie.Need-returns-4
 returns-4 c =
-    let a = c .before .before .before .before .before .before .before .before .args in
+    let at-if2 = c .before .before .before in
+    let a = at-if2 .before .before .before .before .before .args in
     way-refused (now (a .book)) (a .request) (a .outcome) (now (a .history)) 16
-    (refused-by-16 (now (a .book)) (a .request) (a .outcome) (now (a .history)) (c .before .before .before .before .before .if1 .left) _ (c .before .before .before .before .refusal .ensures) (c .before .before .before .if2 .left) (c .before .before .if3 .left) _ (c .before .requests .ensures) (c .if4 .taken)) (λ e. omega arith)
+    (refused-by-16 (now (a .book)) (a .request) (a .outcome) (now (a .history)) (at-if2 .before .before .if1 .left) _ (at-if2 .before .refusal .ensures) (at-if2 .if2 .left) (c .before .before .if3 .left) _ (c .before .requests .ensures) (c .if4 .taken)) (λ e. omega arith)
 
 width-from-requires : tie.Need-width-from-requires
 width-from-requires c κs = let p = passes (c .before .before .before) in (p .long, p .layout .header, c .before .requests .ensures)
 
 show-requires : tie.Need-show-requires
 show-requires c κs =
-    (record { passed = passes (c .before .before .before .before .before); wide = c .before .width-from .ensures; below = omega (arith, c .before .before .if4 .left, c .before .before .before .requests .ensures) }, c .before .before .before .before .before .before .before .if1 .left)
+    let at-requests = c .before .before .before in
+    let at-if1 = at-requests .before .before .before .before in
+    (record { passed = passes (at-requests .before .before); wide = c .before .width-from .ensures; below = omega (arith, c .before .before .if4 .left, at-requests .requests .ensures) }, at-if1 .if1 .left)
 
 same-length : tie.Need-same-length
 same-length c = search needs
 
 returns-5 : tie.Need-returns-5
 returns-5 c =
-    let a = c .before .before .before .before .before .before .before .before .before .before .before .before .before .args in
+    let at-if4 = c .before .before .before .before .before in
+    let at-if2 = at-if4 .before .before .before in
+    let a = at-if2 .before .before .before .before .before .args in
     let e = c .before .before .show .ensures in
     way-given (now (a .book)) (a .request) (a .outcome) (now (a .history)) 0
-    (refused-by-none (now (a .book)) (a .request) (a .outcome) (now (a .history)) (c .before .before .before .before .before .before .before .before .before .before .if1 .left) _ (c .before .before .before .before .before .before .before .before .before .refusal .ensures) (c .before .before .before .before .before .before .before .before .if2 .left) (c .before .before .before .before .before .before .before .if3 .left) _ (c .before .before .before .before .before .before .requests .ensures) (c .before .before .before .before .before .if4 .left)) refl _ _ (e .0) (e .1)
+    (refused-by-none (now (a .book)) (a .request) (a .outcome) (now (a .history)) (at-if2 .before .before .if1 .left) _ (at-if2 .before .refusal .ensures) (at-if2 .if2 .left) (at-if4 .before .before .if3 .left) _ (at-if4 .before .requests .ensures) (at-if4 .if4 .left)) refl _ _ (e .0) (e .1)
 
 pub way-spec : {M : Type 1} → statement M
 way-spec =

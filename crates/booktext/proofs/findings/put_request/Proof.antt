@@ -21,8 +21,10 @@ same-length c = search needs
 
 returns : tie.Need-returns
 returns c =
-    let s = c .before .before .before .before .before .before .before .before .before .before .before .before .before .before in
-    (then-both (blank ∷ historyText (s .args .history .now)) (newline ∷ []) (c .before .before .before .before .before .before .before .before .before .before .put-decimal .ensures .0) (then (c .before .before .before .before .before .before .put-byte .ensures) (c .before .before .put-history .ensures .0)), omega arith)
+    let at-put-byte = c .before .before .before .before .before .before in
+    let at-put-decimal = at-put-byte .before .before .before .before in
+    let s = at-put-decimal .before .before .before .before in
+    (then-both (blank ∷ historyText (s .args .history .now)) (newline ∷ []) (at-put-decimal .put-decimal .ensures .0) (then (at-put-byte .put-byte .ensures) (c .before .before .put-history .ensures .0)), omega arith)
 
 pub put-request-spec : {M : Type 1} → statement M
 put-request-spec =

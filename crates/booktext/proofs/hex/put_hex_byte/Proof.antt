@@ -33,7 +33,10 @@ same-length c = search needs
 
 returns : tie.Need-returns
 returns c =
-    digits-put _ _ (c .before .before .before .before .before .before .before .before .before .before .wide .ensures .0) (c .before .before .before .before .before .before .before .before .hex-digit .ensures) (c .before .before .before .hex-digit2 .ensures) (then (c .before .before .before .before .before .before .before .put-byte .ensures) (c .before .before .put-byte2 .ensures))
+    let at-hex-digit2 = c .before .before .before in
+    let at-put-byte = at-hex-digit2 .before .before .before .before in
+    let at-wide = at-put-byte .before .before .before in
+    digits-put _ _ (at-wide .wide .ensures .0) (at-put-byte .before .hex-digit .ensures) (at-hex-digit2 .hex-digit2 .ensures) (then (at-put-byte .put-byte .ensures) (c .before .before .put-byte2 .ensures))
 
 pub put-hex-byte-spec : {M : Type 1} → statement M
 put-hex-byte-spec =

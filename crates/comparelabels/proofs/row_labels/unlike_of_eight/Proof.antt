@@ -20,8 +20,9 @@ word-requires-2 c κs = search needs
 
 returns : tie.Need-returns
 returns c =
-    let p = c .before .before .before .before .before .before .before in
-    zeros-alike _ _ _ _ _ (p .pre .0) (c .before .before .before .word .ensures .1) (c .before .word2 .ensures .1) (sym (c .before .before .before .word .ensures .0) ∙ c .before .before .if1 .taken) (sym (c .before .word2 .ensures .0) ∙ c .if2 .taken) _ _ (omega arith) (omega arith) (omega arith)
+    let at-word = c .before .before .before in
+    let p = at-word .before .before .before .before in
+    zeros-alike _ _ _ _ _ (p .pre .0) (at-word .word .ensures .1) (c .before .word2 .ensures .1) (sym (at-word .word .ensures .0) ∙ c .before .before .if1 .taken) (sym (c .before .word2 .ensures .0) ∙ c .if2 .taken) _ _ (omega arith) (omega arith) (omega arith)
 
 unlike-before-requires : tie.Need-unlike-before-requires
 unlike-before-requires c κs = search needs

@@ -22,7 +22,10 @@ wide-requires-2 : tie.Need-wide-requires-2
 wide-requires-2 c κs = search needs
 
 slice-read-before : tie.Need-slice-read-before
-slice-read-before c = omega (arith, c .before .wide2 .ensures .0 ∙ ap (byte (c .before .before .before .before .before .before .before .before .args .order .now)) (c .before .before .before .wide .ensures .0), c .before .before .before .before .before .before .before .before .pre .parentState)
+slice-read-before c =
+    let at-wide = c .before .before .before in
+    let at-args = at-wide .before .before .before .before .before in
+    omega (arith, c .before .wide2 .ensures .0 ∙ ap (byte (at-args .args .order .now)) (at-wide .wide .ensures .0), at-args .pre .parentState)
 
 add-depths : tie.Need-add-depths
 add-depths c =

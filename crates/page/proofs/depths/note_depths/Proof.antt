@@ -44,8 +44,10 @@ loop-less c = search needs
 
 loop-again : tie.Need-loop-again Inv-loop μ-loop
 loop-again c =
-    let l = c .before .before .before .before .before .loop in
-    let next = noted-next _ _ _ _ (places-same (sym (simp length-set at (l .inv .2))) (c .before .before .before .before .before .before .before .before .before .before .before .pre .0)) (l .k) (l .inv .0) (c .before .before .before .before .loop-test .taken) (l .inv .3) (c .before .before .note-depth .ensures) in
+    let at-loop-test = c .before .before .before .before in
+    let at-pre = at-loop-test .before .before .before .before .before .before .before in
+    let l = at-loop-test .before .loop in
+    let next = noted-next _ _ _ _ (places-same (sym (simp length-set at (l .inv .2))) (at-pre .pre .0)) (l .k) (l .inv .0) (at-loop-test .loop-test .taken) (l .inv .3) (c .before .before .note-depth .ensures) in
     (omega arith, omega arith, omega arith, next)
 
 same-length : tie.Need-same-length Inv-loop μ-loop

@@ -17,7 +17,10 @@ abbrev μ-loop : tie.MeasureT-loop
 μ-loop rows width order₀ trail₀ numbers₀ n₀ i₀ order trail numbers n i = 128 - i
 
 few : (c : tie.After-slice-known8 Inv-loop μ-loop) → c .before .before .before .before .before .before .before .before .before .before .before .loop .n ≤ 127
-few c = searched-few _ _ (c .before .before .before .before .before .before .before .before .before .before .before .before .before .before .before .before .before .before .before .before .before .before .before .pre .0) (c .before .before .before .before .before .before .before .before .before .before .before .loop .inv .0)
+few c =
+    let at-loop = c .before .before .before .before .before .before .before .before .before .before .before in
+    let at-pre = at-loop .before .before .before .before .before .before .before .before .before .before .before .before in
+    searched-few _ _ (at-pre .pre .0) (at-loop .loop .inv .0)
 
 begin-requires : tie.Need-begin-requires Inv-loop μ-loop
 begin-requires c κs = search needs

@@ -47,9 +47,10 @@ wide-requires-2 c κs = search needs
 
 note-requires : tie.Need-note-requires Inv-loop μ-loop
 note-requires c κs =
-    let s = c .before .before .before .before .before .before .before .before .before .before .before .before .before in
-    let w = c .before .before .before .before .before .before .before .wide in
-    tried-asks (s .pre .0 .0) (s .pre .0 .1) (c .before .before .before .before .before .before .loop .inv .0) (c .before .before .before .before .before .loop-test .taken) (w .result) (w .ensures .0) _ (c .wide2 .ensures .0) (omega (arith, s .pre .1 .1, c .before .before .before .before .before .before .loop .inv .3))
+    let at-loop-test = c .before .before .before .before .before in
+    let s = at-loop-test .before .before .before .before .before .before .before .before in
+    let w = at-loop-test .before .before .wide in
+    tried-asks (s .pre .0 .0) (s .pre .0 .1) (at-loop-test .before .loop .inv .0) (at-loop-test .loop-test .taken) (w .result) (w .ensures .0) _ (c .wide2 .ensures .0) (omega (arith, s .pre .1 .1, at-loop-test .before .loop .inv .3))
 
 add-c : tie.Need-add-c Inv-loop μ-loop
 add-c c = search needs
@@ -59,10 +60,12 @@ loop-less c = search needs
 
 loop-again : tie.Need-loop-again Inv-loop μ-loop
 loop-again c =
-    let s = c .before .before .before .before .before .before .before .before .before .before .before .before .before .before .before .before .before .before .before .before in
-    let w = c .before .before .before .before .before .before .before .before .before .before .before .before .before .before .wide in
-    let now = c .before .before .before .before .before .before .before .before .before .before .before .before .before .loop .inv .0 in
-    let turned = tried-turn (s .pre .0 .0) (s .pre .0 .1) now (c .before .before .before .before .before .before .before .before .before .before .before .before .loop-test .taken) (w .result) (w .ensures .0) _ (c .before .before .before .before .before .before .before .wide2 .ensures .0) (c .before .before .before .before .before .before .note .ensures) in
+    let at-note = c .before .before .before .before .before .before in
+    let at-loop-test = at-note .before .before .before .before .before .before in
+    let s = at-loop-test .before .before .before .before .before .before .before .before in
+    let w = at-loop-test .before .before .wide in
+    let now = at-loop-test .before .loop .inv .0 in
+    let turned = tried-turn (s .pre .0 .0) (s .pre .0 .1) now (at-loop-test .loop-test .taken) (w .result) (w .ensures .0) _ (at-note .before .wide2 .ensures .0) (at-note .note .ensures) in
     (turned, search needs, search needs, search needs)
 
 same-length : tie.Need-same-length Inv-loop μ-loop

@@ -19,8 +19,10 @@ turned : (c : tie.After-slice-known2 Inv-loop μ-loop)
     → Round (c .before .before .before .before .before .before .before .before .before .args .book .now) (c .before .before .before .before .before .before .before .before .before .args .marks .now)
     (c .before .before .mark-before .last .1 .1 .0) (c .before .before .before .before .before .loop .gained + c .before .before .mark-before .result) (c .before .before .before .before .before .loop .s + 1)
 turned c =
+    let at-loop-test = c .before .before .before .before in
+    let at-pre = at-loop-test .before .before .before .before .before in
     let e = c .before .before .mark-before .ensures in
-    round-turn _ (c .before .before .before .before .before .before .before .before .before .pre .0) _ _ _ _ (c .before .before .before .before .before .loop .inv .0) (omega (arith, c .before .before .before .before .loop-test .taken, c .before .before .before .before .before .before .states .ensures)) _ _ (e .0) (e .1)
+    round-turn _ (at-pre .pre .0) _ _ _ _ (at-loop-test .before .loop .inv .0) (omega (arith, at-loop-test .loop-test .taken, at-loop-test .before .before .states .ensures)) _ _ (e .0) (e .1)
 
 states-requires : tie.Need-states-requires Inv-loop μ-loop
 states-requires c κs = omega (arith, c .before .before .pre .0 .layout .exact)

@@ -19,7 +19,10 @@ abbrev μ-loop : tie.MeasureT-loop
 μ-loop book goal order₀ trail₀ numbers₀ all n₀ i₀ level₀ order trail numbers n i level = 128 - i
 
 few : (c : tie.Else2 Inv-loop μ-loop) → c .before .before .before .before .before .before .before .before .before .before .before .before .before .loop .n ≤ 127
-few c = found-few _ _ (c .before .before .before .before .before .before .before .before .before .before .before .before .before .before .before .before .before .before .before .before .before .before .before .before .before .before .pre .0 .0 .passed) (c .before .before .before .before .before .before .before .before .before .before .before .before .before .loop .inv .0)
+few c =
+    let at-loop = c .before .before .before .before .before .before .before .before .before .before .before .before .before in
+    let at-pre = at-loop .before .before .before .before .before .before .before .before .before .before .before .before .before in
+    found-few _ _ (at-pre .pre .0 .0 .passed) (at-loop .loop .inv .0)
 
 begin-requires : tie.Need-begin-requires Inv-loop μ-loop
 begin-requires c κs = search needs
@@ -53,8 +56,10 @@ visit-for-requires c κs =
 
 add-t23 : tie.Need-add-t23 Inv-loop μ-loop
 add-t23 c =
-    let l = c .before .before .before .before .before .before .before .before .before .before .before .before .before .before .loop in
-    omega (arith, l .inv .0 .level .few, c .before .before .before .before .before .before .before .before .before .before .before .before .before .loop-test .taken, found-few _ _ (c .before .before .before .before .before .before .before .before .before .before .before .before .before .before .before .before .before .before .before .before .before .before .before .before .before .before .before .pre .0 .0 .passed) (l .inv .0))
+    let at-loop-test = c .before .before .before .before .before .before .before .before .before .before .before .before .before in
+    let at-pre = at-loop-test .before .before .before .before .before .before .before .before .before .before .before .before .before .before in
+    let l = at-loop-test .before .loop in
+    omega (arith, l .inv .0 .level .few, at-loop-test .loop-test .taken, found-few _ _ (at-pre .pre .0 .0 .passed) (l .inv .0))
 
 same-length-4 : tie.Need-same-length-4 Inv-loop μ-loop
 same-length-4 c = search needs
@@ -67,24 +72,30 @@ same-length-6 c = search needs
 
 returns-2 : tie.Need-returns-2 Inv-loop μ-loop
 returns-2 c =
-    let p = c .before .before .before .before .before .before .before .before .before .before .before .before .before .before .before .before .before .before .before .before .before .before .before .before .before .before .before .pre .0 .0 in
-    here _ _ (p .passed) (c .before .before .before .before .before .before .before .before .before .before .before .before .before .before .loop .inv .0) (c .before .before .before .before .before .before .before .before .before .before .before .before .before .loop-test .taken) (c .before .before .before .before .before .before .before .before .visit-for .ensures) (c .before .if2 .taken)
+    let at-visit-for = c .before .before .before .before .before .before .before .before in
+    let at-loop-test = at-visit-for .before .before .before .before .before in
+    let p = at-loop-test .before .before .before .before .before .before .before .before .before .before .before .before .before .before .pre .0 .0 in
+    here _ _ (p .passed) (at-loop-test .before .loop .inv .0) (at-loop-test .loop-test .taken) (at-visit-for .visit-for .ensures) (c .before .if2 .taken)
 
 add-i : tie.Need-add-i Inv-loop μ-loop
 add-i c = omega (arith, few c, c .before .before .before .before .before .before .before .before .before .before .before .before .loop-test .taken)
 
 next-level-requires : tie.Need-next-level-requires Inv-loop μ-loop
-next-level-requires c κs = omega (arith, few c, c .before .before .before .before .before .before .before .before .before .before .before .before .loop-test .taken, c .before .before .before .before .before .before .before .before .before .before .before .before .before .loop .inv .0 .level .few)
+next-level-requires c κs =
+    let at-loop-test = c .before .before .before .before .before .before .before .before .before .before .before .before in
+    omega (arith, few c, at-loop-test .loop-test .taken, at-loop-test .before .loop .inv .0 .level .few)
 
 loop-less : tie.Need-loop-less Inv-loop μ-loop
 loop-less c = omega (arith, few (c .before), c .before .before .before .before .before .before .before .before .before .before .before .before .before .loop-test .taken)
 
 loop-again : tie.Need-loop-again Inv-loop μ-loop
 loop-again c =
-    let p = c .before .before .before .before .before .before .before .before .before .before .before .before .before .before .before .before .before .before .before .before .before .before .before .before .before .before .before .pre .0 .0 in
-    let l = c .before .before .before .before .before .before .before .before .before .before .before .before .before .before .loop in
+    let at-visit-for = c .before .before .before .before .before .before .before .before in
+    let at-loop-test = at-visit-for .before .before .before .before .before in
+    let p = at-loop-test .before .before .before .before .before .before .before .before .before .before .before .before .before .before .pre .0 .0 in
+    let l = at-loop-test .before .loop in
     let e = c .next-level .ensures in
-    let turned = further _ _ (p .passed) (l .inv .0) (c .before .before .before .before .before .before .before .before .before .before .before .before .before .loop-test .taken) (c .before .before .before .before .before .before .before .before .visit-for .ensures) (c .before .if2 .left) in
+    let turned = further _ _ (p .passed) (l .inv .0) (at-loop-test .loop-test .taken) (at-visit-for .visit-for .ensures) (c .before .if2 .left) in
     (rw (e .0, e .1) turned, search needs, search needs, search needs, omega (arith, l .inv .4))
 
 same-length-7 : tie.Need-same-length-7 Inv-loop μ-loop

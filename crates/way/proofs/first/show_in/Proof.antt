@@ -19,7 +19,10 @@ same-length-3 : tie.Need-same-length-3
 same-length-3 c = search needs
 
 returns : tie.Need-returns
-returns c = shows-none _ _ _ (c .before .before .before .before .before .before .before .before .first-state .ensures) (c .if1 .taken) (now (c .before .before .before .before .before .before .before .before .before .before .before .before .before .before .before .before .before .args .history))
+returns c =
+    let at-first-state = c .before .before .before .before .before .before .before .before in
+    let at-args = at-first-state .before .before .before .before .before .before .before .before .before in
+    shows-none _ _ _ (at-first-state .first-state .ensures) (c .if1 .taken) (now (at-args .args .history))
 
 sub-write-codes : tie.Need-sub-write-codes
 sub-write-codes c = search needs
@@ -43,7 +46,11 @@ same-length-7 : tie.Need-same-length-7
 same-length-7 c = search needs
 
 returns-2 : tie.Need-returns-2
-returns-2 c = shows-found _ _ _ _ (now (c .before .before .before .before .before .before .before .before .before .before .before .before .before .before .before .before .before .before .before .before .before .before .before .args .history)) _ (c .before .before .before .before .before .before .before .before .before .before .before .before .before .before .first-state .ensures) (c .before .before .before .before .before .before .if1 .left) (c .before .before .write-codes .ensures)
+returns-2 c =
+    let at-if1 = c .before .before .before .before .before .before in
+    let at-first-state = at-if1 .before .before .before .before .before .before .before .before in
+    let at-args = at-first-state .before .before .before .before .before .before .before .before .before in
+    shows-found _ _ _ _ (now (at-args .args .history)) _ (at-first-state .first-state .ensures) (at-if1 .if1 .left) (c .before .before .write-codes .ensures)
 
 pub show-in-spec : {M : Type 1} → statement M
 show-in-spec =

@@ -32,15 +32,20 @@ entry-requires c κs =
 
 note-requires : tie.Need-note-requires Inv-loop μ-loop
 note-requires c κs =
-    let p = c .before .before .before .before .before .before .before .before .before .before .before .before .pre in
-    let l = c .before .before .before .before .before .loop in
-    visit-asks (p .0 .0 .passed) (p .1 .0) (l .inv .0) (omega (arith, c .before .before .before .before .loop-test .taken, p .0 .0 .wide)) _ (c .before .before .before .before .before .before .wide .ensures .0) _ (c .before .before .before .entry .ensures) (omega (arith, p .1 .1 .1, l .inv .3))
+    let at-entry = c .before .before .before in
+    let at-wide = at-entry .before .before .before in
+    let p = at-wide .before .before .before .before .before .before .pre in
+    let l = at-entry .before .before .loop in
+    visit-asks (p .0 .0 .passed) (p .1 .0) (l .inv .0) (omega (arith, at-entry .before .loop-test .taken, p .0 .0 .wide)) _ (at-wide .wide .ensures .0) _ (at-entry .entry .ensures) (omega (arith, p .1 .1 .1, l .inv .3))
 
 is-hit-requires : tie.Need-is-hit-requires Inv-loop μ-loop
 is-hit-requires c κs =
-    let p = c .before .before .before .before .before .before .before .before .before .before .before .before .before .before .before .before .before .before .before .pre in
-    let l = c .before .before .before .before .before .before .before .before .before .before .before .before .loop in
-    (p .0 .0, visit-new (p .0 .0 .passed) (p .1 .0) (l .inv .0) (omega (arith, c .before .before .before .before .before .before .before .before .before .before .before .loop-test .taken, p .0 .0 .wide)) _ (c .before .before .before .before .before .before .before .before .before .before .before .before .before .wide .ensures .0) _ (c .before .before .before .before .before .before .before .before .before .before .entry .ensures) (c .before .before .before .before .before .before .note .ensures))
+    let at-note = c .before .before .before .before .before .before in
+    let at-entry = at-note .before .before .before .before in
+    let at-wide = at-entry .before .before .before in
+    let p = at-wide .before .before .before .before .before .before .pre in
+    let l = at-entry .before .before .loop in
+    (p .0 .0, visit-new (p .0 .0 .passed) (p .1 .0) (l .inv .0) (omega (arith, at-entry .before .loop-test .taken, p .0 .0 .wide)) _ (at-wide .wide .ensures .0) _ (at-entry .entry .ensures) (at-note .note .ensures))
 
 same-length : tie.Need-same-length Inv-loop μ-loop
 same-length c = search needs
@@ -53,21 +58,29 @@ same-length-3 c = search needs
 
 returns : tie.Need-returns Inv-loop μ-loop
 returns c =
-    let p = c .before .before .before .before .before .before .before .before .before .before .before .before .before .before .before .before .before .before .before .before .before .pre in
-    let l = c .before .before .before .before .before .before .before .before .before .before .before .before .before .before .loop in
-    visit-hit (p .0 .0 .passed) (p .1 .0) (l .inv .0) (omega (arith, c .before .before .before .before .before .before .before .before .before .before .before .before .before .loop-test .taken, p .0 .0 .wide)) _ (c .before .before .before .before .before .before .before .before .before .before .before .before .before .before .before .wide .ensures .0) _ (c .before .before .before .before .before .before .before .before .before .before .before .before .entry .ensures) (c .before .before .before .before .before .before .before .before .note .ensures) _ (c .before .is-hit .ensures) (c .if1 .taken)
+    let at-note = c .before .before .before .before .before .before .before .before in
+    let at-entry = at-note .before .before .before .before in
+    let at-wide = at-entry .before .before .before in
+    let p = at-wide .before .before .before .before .before .before .pre in
+    let l = at-entry .before .before .loop in
+    visit-hit (p .0 .0 .passed) (p .1 .0) (l .inv .0) (omega (arith, at-entry .before .loop-test .taken, p .0 .0 .wide)) _ (at-wide .wide .ensures .0) _ (at-entry .entry .ensures) (at-note .note .ensures) _ (c .before .is-hit .ensures) (c .if1 .taken)
 
 add-c : tie.Need-add-c Inv-loop μ-loop
-add-c c = let g = c .before .before .before .before .before .before .before .before .before .before .before .before .before .before .before .before .before .before .before .before .before .pre .0 .0 in omega (arith, c .before .before .before .before .before .before .before .before .before .before .before .before .before .loop-test .taken, g .wide, g .passed .layout .header .widthMost)
+add-c c =
+    let at-loop-test = c .before .before .before .before .before .before .before .before .before .before .before .before .before in
+    let g = at-loop-test .before .before .before .before .before .before .before .before .pre .0 .0 in omega (arith, at-loop-test .loop-test .taken, g .wide, g .passed .layout .header .widthMost)
 
 loop-less : tie.Need-loop-less Inv-loop μ-loop
 loop-less c = omega (arith, c .before .before .before .before .before .before .before .before .before .before .before .before .before .loop-test .taken)
 
 loop-again : tie.Need-loop-again Inv-loop μ-loop
 loop-again c =
-    let p = c .before .before .before .before .before .before .before .before .before .before .before .before .before .before .before .before .before .before .before .before .before .pre in
-    let l = c .before .before .before .before .before .before .before .before .before .before .before .before .before .before .loop in
-    let turned = visit-turn (p .0 .0 .passed) (p .1 .0) (l .inv .0) (omega (arith, c .before .before .before .before .before .before .before .before .before .before .before .before .before .loop-test .taken, p .0 .0 .wide)) _ (c .before .before .before .before .before .before .before .before .before .before .before .before .before .before .before .wide .ensures .0) _ (c .before .before .before .before .before .before .before .before .before .before .before .before .entry .ensures) (c .before .before .before .before .before .before .before .before .note .ensures) _ (c .before .is-hit .ensures) (c .if1 .left) in
+    let at-note = c .before .before .before .before .before .before .before .before in
+    let at-entry = at-note .before .before .before .before in
+    let at-wide = at-entry .before .before .before in
+    let p = at-wide .before .before .before .before .before .before .pre in
+    let l = at-entry .before .before .loop in
+    let turned = visit-turn (p .0 .0 .passed) (p .1 .0) (l .inv .0) (omega (arith, at-entry .before .loop-test .taken, p .0 .0 .wide)) _ (at-wide .wide .ensures .0) _ (at-entry .entry .ensures) (at-note .note .ensures) _ (c .before .is-hit .ensures) (c .if1 .left) in
     (turned, search needs, search needs, search needs)
 
 same-length-4 : tie.Need-same-length-4 Inv-loop μ-loop

@@ -3,12 +3,12 @@ use mathlib.Core.Path.{ap}
 use Prim.Native.Nat.{_-_}
 use native.Mathlib.Omega.{arith}
 use lib.ListN.{length}
-use Rattle.book.specs.SameBytes.{SameSoFar}
+use Rattle.samebytes.specs.SameBytes.{SameSoFar}
 use Rattle.automaton.proofs.Below.{same-list-no}
-use Rattle.book.proofs.SameBytes.{nothing-read, more-read, part-differs, all-read}
+use Rattle.samebytes.proofs.SameBytes.{nothing-read, more-read, part-differs, all-read}
 use borrow.Author.Needs.{needs}
-use Rattle.book.proofs.same.same_bytes.Statement.{statement}
-use Rattle.book.proofs.same.same_bytes.Tie as tie
+use Rattle.samebytes.proofs.same_bytes.Statement.{statement}
+use Rattle.samebytes.proofs.same_bytes.Tie as tie
 
 abbrev Inv-loop : tie.InvT-loop
 Inv-loop first second k₀ k = SameSoFar first second k

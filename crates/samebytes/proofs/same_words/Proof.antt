@@ -3,11 +3,11 @@ use Prim.Native.Nat.{_-_}
 use native.Mathlib.Omega.{arith}
 use lib.ListN.{length}
 use Rattle.automaton.proofs.ByteWords.{words-equal}
-use Rattle.book.specs.SameBytes.{SameSoFar}
-use Rattle.book.proofs.SameBytes.{more-read, part-differs}
+use Rattle.samebytes.specs.SameBytes.{SameSoFar}
+use Rattle.samebytes.proofs.SameBytes.{more-read, part-differs}
 use borrow.Author.Needs.{needs}
-use Rattle.book.proofs.same.same_words.Statement.{statement}
-use Rattle.book.proofs.same.same_words.Tie as tie
+use Rattle.samebytes.proofs.same_words.Statement.{statement}
+use Rattle.samebytes.proofs.same_words.Tie as tie
 
 abbrev Inv-loop : tie.InvT-loop
 Inv-loop first second from k₀ k = SameSoFar first second k

@@ -6,8 +6,8 @@ use native.Mathlib.Omega.{arith}
 use Rattle.automaton.specs.ByteWords.{SamePart}
 use Rattle.automaton.proofs.ByteWords.{part-of-one, gathered-more}
 use borrow.Author.Needs.{needs}
-use Rattle.book.proofs.same.byte_differences.Statement.{statement}
-use Rattle.book.proofs.same.byte_differences.Tie as tie
+use Rattle.samebytes.proofs.byte_differences.Statement.{statement}
+use Rattle.samebytes.proofs.byte_differences.Tie as tie
 
 abbrev Inv-loop : tie.InvT-loop
 Inv-loop first second k gathered₀ n₀ gathered n = (n ≤ 4) × ((gathered ≡ 0) ↔ SamePart n first k second k)

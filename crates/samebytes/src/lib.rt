@@ -8,7 +8,7 @@ ghost use Rattle.automaton.specs.Below.{sameList};
 ghost use Rattle.automaton.specs.ByteWords.{SamePart};
 ghost use Rattle.definitions.specs.Book.{frame};
 ghost use Rattle.definitions.specs.Compare.{sameBytes};
-ghost use Rattle.book.specs.SameBytes.{SameSoFar};
+ghost use Rattle.samebytes.specs.SameBytes.{SameSoFar};
 use automaton::word;
 
 // The differences of eight words from place k on, gathered: 0 where there is none. Nothing is decided before the last word, so that the compiler makes vector

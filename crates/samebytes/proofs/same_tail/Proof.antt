@@ -1,9 +1,9 @@
 -- `same_tail` meets its contract.
 use native.Mathlib.Omega.{arith}
-use Rattle.book.proofs.SameBytes.{more-read, part-differs}
+use Rattle.samebytes.proofs.SameBytes.{more-read, part-differs}
 use borrow.Author.Needs.{needs}
-use Rattle.book.proofs.same.same_tail.Statement.{statement}
-use Rattle.book.proofs.same.same_tail.Tie as tie
+use Rattle.samebytes.proofs.same_tail.Statement.{statement}
+use Rattle.samebytes.proofs.same_tail.Tie as tie
 
 add-if1 : tie.Need-add-if1
 add-if1 c = search needs

@@ -6,8 +6,8 @@ use native.Mathlib.Omega.{arith}
 use Rattle.automaton.specs.ByteWords.{SamePart}
 use Rattle.automaton.proofs.ByteWords.{words-equal, gathered-more}
 use borrow.Author.Needs.{needs}
-use Rattle.book.proofs.same.word_differences.Statement.{statement}
-use Rattle.book.proofs.same.word_differences.Tie as tie
+use Rattle.samebytes.proofs.word_differences.Statement.{statement}
+use Rattle.samebytes.proofs.word_differences.Tie as tie
 
 abbrev Inv-loop : tie.InvT-loop
 Inv-loop first second k gathered₀ n₀ gathered n = (n ≤ 64) × (n % 8 ≡ 0) × ((gathered ≡ 0) ↔ SamePart n first k second k)

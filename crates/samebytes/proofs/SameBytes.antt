@@ -11,7 +11,7 @@ use Rattle.automaton.specs.Below.{sameList}
 use Rattle.automaton.specs.ByteWords.{SamePart}
 use Rattle.automaton.proofs.Below.{same-list-yes, same-list-no}
 use Rattle.automaton.proofs.ByteWords.{parts-joined}
-use Rattle.book.specs.SameBytes.{SameSoFar}
+use Rattle.samebytes.specs.SameBytes.{SameSoFar}
 
 module _ (xs ys : List ℕ) where
   pub nothing-read : length xs ≡ length ys → SameSoFar xs ys 0

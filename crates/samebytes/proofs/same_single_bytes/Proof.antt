@@ -3,11 +3,11 @@ use Prim.Native.Nat.{_-_}
 use native.Mathlib.Omega.{arith}
 use lib.ListN.{length}
 use Rattle.automaton.proofs.ByteWords.{part-of-one}
-use Rattle.book.specs.SameBytes.{SameSoFar}
-use Rattle.book.proofs.SameBytes.{more-read, part-differs, all-read}
+use Rattle.samebytes.specs.SameBytes.{SameSoFar}
+use Rattle.samebytes.proofs.SameBytes.{more-read, part-differs, all-read}
 use borrow.Author.Needs.{needs}
-use Rattle.book.proofs.same.same_single_bytes.Statement.{statement}
-use Rattle.book.proofs.same.same_single_bytes.Tie as tie
+use Rattle.samebytes.proofs.same_single_bytes.Statement.{statement}
+use Rattle.samebytes.proofs.same_single_bytes.Tie as tie
 
 abbrev Inv-loop : tie.InvT-loop
 Inv-loop first second from k₀ k = SameSoFar first second k
