@@ -28,7 +28,7 @@
  *   - about 128 kB of stack are free (for policybook_same_bytes next to nothing).
  * Nothing else is asked: any bytes may be given as a policy or as a book, and any length, request and outcome.
  *
- * Link with libpolicybook.a: `rt staticlib policybook` writes it to target/staticlib, host/install puts it and this header where pkg-config finds
+ * Link with libpolicybook.a: `tools/library` writes it to target/staticlib, host/install puts it and this header where pkg-config finds
  * them (docs/C-INTERFACE.md). Examples: host/walk.c, host/sample.c, host/page.c, host/way.c, host/inventory.c, host/answers.c.
  */
 #ifndef POLICYBOOK_H

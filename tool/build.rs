@@ -1,4 +1,4 @@
-//! Links the proved library, which `rt staticlib policybook` writes.
+//! Links the proved library, which `tools/library` writes.
 
 fn main() {
     let folder = concat!(env!("CARGO_MANIFEST_DIR"), "/../target/staticlib");
