@@ -25,4 +25,3 @@ pub mod Separation
 pub mod PairQueue
 pub mod Pair
 pub mod Cases
-pub mod ByteWords

@@ -11,4 +11,3 @@ pub mod StateList
 pub mod Parents
 pub mod Labels
 pub mod PairQueue
-pub mod ByteWords

@@ -1,10 +1,6 @@
-// The theory of machines: its definitions stand in specs/, its laws in proofs/. The functions here serve every crate that reads bytes.
+// The theory of machines: its definitions stand in specs/, its laws in proofs/. The one function here serves every crate that reads bytes.
 ghost use mathlib.Core.Path.{_≡_};
 ghost use Prim.Native.Nat.{_<_};
-
-mod byte_words;
-
-pub use byte_words::word;
 
 // A byte as an index.
 pub fn wide(x: u8) -> usize

@@ -3,7 +3,7 @@ use mathlib.Core.Bool.{cond}
 use mathlib.Core.List.{List, [], _∷_, _++_}
 use Prim.Native.Nat.{ℕ, _+_, _/_, _%_}
 use lib.Dec.{ltb}
-use Rattle.definitions.specs.Shelf.{newline}
+use Rattle.definitions.specs.Characters.{newline}
 use Rattle.text.specs.Each.{eachText}
 
 -- 0 to 9, A to F

@@ -3,8 +3,8 @@ use mathlib.Core.Path.{_≡_}
 use mathlib.Core.List.{List}
 use Prim.Native.Nat.{ℕ, _+_, _≤_}
 use native.Mathlib.Omega.{arith}
-use Rattle.automaton.specs.ByteWords.{wordAt, WordBytes}
-use Rattle.automaton.proofs.ByteWords.{word-zeros}
+use Rattle.bytewords.specs.ByteWords.{wordAt, WordBytes}
+use Rattle.bytewords.proofs.ByteWords.{word-zeros}
 use Rattle.comparelabels.specs.RowLabels.{RowPair, SameLabel}
 use Rattle.comparelabels.specs.FirstFailing.{FirstFailing}
 use Rattle.comparelabels.proofs.FirstFailing.{fails-nowhere}

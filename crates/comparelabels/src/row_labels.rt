@@ -6,7 +6,7 @@ ghost use Rattle.comparelabels.specs.LabelBytes.{labelAt};
 ghost use Rattle.comparelabels.specs.RowLabels.{RowPair, SameLabel};
 ghost use Rattle.comparelabels.specs.FirstFailing.{FirstFailing};
 use automaton::wide;
-use automaton::word;
+use bytewords::word;
 
 // The first place from `from` on, below `end`, at which the labels are two; `end` if there is none.
 fn unlike_before(

@@ -14,7 +14,7 @@ use Rattle.automaton.proofs.Below.{length-list-below, getD-list-below}
 use Rattle.automaton.proofs.WellFormed.{Wide}
 use Rattle.definitions.specs.Book.{states}
 use Rattle.definitions.specs.Decimal.{digit}
-use Rattle.definitions.specs.Shelf.{blank, newline}
+use Rattle.definitions.specs.Characters.{blank, newline}
 use Rattle.definitions.specs.Verdict.{statesReached}
 use Rattle.definitions.specs.Page.{threeColumns, lengthColumns, requestColumn, pageLine, lineAfter, pageLines, page}
 use Rattle.definitions.proofs.BookBytes.{length-concat}

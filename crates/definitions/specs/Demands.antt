@@ -23,7 +23,7 @@ use Rattle.definitions.specs.Build.{bookOf, buildAnswer, buildBuffer}
 use Rattle.definitions.specs.Verdict.{Found, Findings, findings, foundHistory, verdictAnswer, Buffers, verdictBuffers, conflict, missing, blocked}
 use Rattle.definitions.specs.Compare.{sameBytes, comparison, compareAnswer, compareBuffer}
 use Rattle.definitions.specs.Telling.{Telling, toTelling, telling, outcomeOf}
-use Rattle.definitions.specs.Shelf.{blank, newline}
+use Rattle.definitions.specs.Characters.{blank, newline}
 use Rattle.definitions.specs.Page.{threeColumns, dashes, letter, page}
 use Rattle.definitions.specs.Way.{way, wayAnswer, wayBuffer}
 

@@ -13,6 +13,7 @@ pub mod Telling
 pub mod Verdict
 pub mod Compare
 pub mod Opened
+pub mod Characters
 pub mod Decimal
 pub mod Shelf
 pub mod Page

@@ -13,7 +13,7 @@ use Rattle.definitions.specs.Refusal.{bookRefusal}
 use Rattle.definitions.specs.Telling as T
 use Rattle.definitions.specs.Verdict.{statesReached}
 use Rattle.definitions.specs.Decimal.{decimal}
-use Rattle.definitions.specs.Shelf.{blank, newline}
+use Rattle.definitions.specs.Characters.{blank, newline}
 
 -- ---- columns
 -- "state number in 3 columns to the right", "length .. in 3 columns likewise"

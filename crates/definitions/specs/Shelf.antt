@@ -10,14 +10,10 @@ use Rattle.definitions.specs.Book.{states}
 use Rattle.definitions.specs.Refusal.{policyRefusal}
 use Rattle.definitions.specs.Build.{bookOf}
 use Rattle.definitions.specs.Verdict.{Found, conflict, missing, blocked}
+use Rattle.definitions.specs.Characters.{blank, newline}
 use Rattle.definitions.specs.Decimal.{decimal}
 
 -- ---- lines: "Parts of a line are one blank apart"
-abbrev pub blank : ℕ
-blank = 32
-
-abbrev pub newline : ℕ
-newline = 10
 
 -- the codes, each after a blank
 abbrev pub codesText : History → List ℕ

@@ -17,7 +17,7 @@ use Rattle.definitions.specs.Codes.{acceptCode, rejectCode}
 use Rattle.definitions.specs.Book.{events, requests, width, entry, bookMachine}
 use Rattle.definitions.proofs.BookSteps.{step-is-entry}
 use Rattle.definitions.specs.Decimal.{digit, decimal}
-use Rattle.definitions.specs.Shelf.{blank, newline}
+use Rattle.definitions.specs.Characters.{blank, newline}
 use Rattle.definitions.specs.Page.{threeColumns, dashes, requestColumn}
 use Rattle.definitions.specs.Telling.{telling}
 use Rattle.text.specs.Put.{Put}

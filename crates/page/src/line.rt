@@ -8,7 +8,7 @@ ghost use Rattle.definitions.specs.Answer.{written};
 ghost use Rattle.definitions.specs.Book as Book;
 ghost use Rattle.definitions.specs.Checked.{BookPassed};
 ghost use Rattle.definitions.specs.Page.{threeColumns, requestColumn};
-ghost use Rattle.definitions.specs.Shelf.{blank};
+ghost use Rattle.definitions.specs.Characters.{blank};
 ghost use Rattle.text.specs.Put.{Put};
 ghost use Rattle.page.specs.LineColumns.{depthColumns, letterBy, letterIn, lineOf};
 use book::events;

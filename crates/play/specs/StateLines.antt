@@ -9,7 +9,8 @@ use Rattle.definitions.specs.Book.{requests}
 use Rattle.definitions.specs.Refusal.{bookRefusal}
 use Rattle.definitions.specs.Telling.{Telling, none, accept, reject, both, telling}
 use Rattle.definitions.specs.Opened.{stateHolds}
-use Rattle.definitions.specs.Shelf.{blank, newline, line, refusedWord}
+use Rattle.definitions.specs.Characters.{blank, newline}
+use Rattle.definitions.specs.Shelf.{line, refusedWord}
 use Rattle.definitions.specs.Decimal.{decimal}
 
 -- "none", "accept", "reject", "both"

@@ -8,9 +8,9 @@ use native.Mathlib.Omega.{arith}
 use lib.ListN.{length, getD}
 use lib.Seq.{ext-getD}
 use Rattle.automaton.specs.Below.{sameList}
-use Rattle.automaton.specs.ByteWords.{SamePart}
+use Rattle.bytewords.specs.ByteWords.{SamePart}
 use Rattle.automaton.proofs.Below.{same-list-yes, same-list-no}
-use Rattle.automaton.proofs.ByteWords.{parts-joined}
+use Rattle.bytewords.proofs.ByteWords.{parts-joined}
 use Rattle.samebytes.specs.SameBytes.{SameSoFar}
 
 module _ (xs ys : List ℕ) where

@@ -3,7 +3,7 @@ use mathlib.Core.Path.{_≡_}
 use mathlib.Core.List.{List}
 use Prim.Native.Nat.{ℕ, _≤_}
 use lib.ListN.{length}
-use Rattle.automaton.specs.ByteWords.{SamePart}
+use Rattle.bytewords.specs.ByteWords.{SamePart}
 
 -- of one length, and the same up to place k
 pub record SameSoFar (xs ys : List ℕ) (k : ℕ) : Type 0 where

@@ -5,11 +5,11 @@ ghost use mathlib.Core.Logic.{_↔_};
 ghost use Prim.Native.Nat.{_+_, _≤_};
 ghost use lib.ListN.{length};
 ghost use Rattle.automaton.specs.Below.{sameList};
-ghost use Rattle.automaton.specs.ByteWords.{SamePart};
+ghost use Rattle.bytewords.specs.ByteWords.{SamePart};
 ghost use Rattle.definitions.specs.Book.{frame};
 ghost use Rattle.definitions.specs.Compare.{sameBytes};
 ghost use Rattle.samebytes.specs.SameBytes.{SameSoFar};
-use automaton::word;
+use bytewords::word;
 
 // The differences of eight words from place k on, gathered: 0 where there is none. Nothing is decided before the last word, so that the compiler makes vector
 // code of it.

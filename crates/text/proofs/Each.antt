@@ -7,7 +7,8 @@ use native.Mathlib.Nat.{mul-suc}
 use native.Mathlib.Omega.{arith}
 use lib.ListN.{length, getD, take}
 use lib.Seq.{take-suc, take-length}
-use Rattle.definitions.specs.Shelf.{blank, codesText}
+use Rattle.definitions.specs.Characters.{blank}
+use Rattle.definitions.specs.Shelf.{codesText}
 use Rattle.definitions.specs.Decimal.{decimal}
 use Rattle.text.specs.Put.{Put}
 use Rattle.text.specs.Each.{eachText}

@@ -5,7 +5,8 @@ ghost use Prim.Native.Nat.{_+_, _*_, _/_, _≤_, _<_};
 ghost use lib.ListN.{length, take};
 ghost use Rattle.definitions.specs.Bytes.{byte, twoBytes};
 ghost use Rattle.definitions.specs.Decimal.{digit, decimal};
-ghost use Rattle.definitions.specs.Shelf.{blank, newline, codesText};
+ghost use Rattle.definitions.specs.Characters.{blank, newline};
+ghost use Rattle.definitions.specs.Shelf.{codesText};
 ghost use Rattle.text.specs.Put.{Put};
 use automaton::wide;
 

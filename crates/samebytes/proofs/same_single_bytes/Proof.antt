@@ -2,7 +2,7 @@
 use Prim.Native.Nat.{_-_}
 use native.Mathlib.Omega.{arith}
 use lib.ListN.{length}
-use Rattle.automaton.proofs.ByteWords.{part-of-one}
+use Rattle.bytewords.proofs.ByteWords.{part-of-one}
 use Rattle.samebytes.specs.SameBytes.{SameSoFar}
 use Rattle.samebytes.proofs.SameBytes.{more-read, part-differs, all-read}
 use borrow.Author.Needs.{needs}

@@ -2,7 +2,7 @@
 use Prim.Native.Nat.{_-_}
 use native.Mathlib.Omega.{arith}
 use lib.ListN.{length}
-use Rattle.automaton.proofs.ByteWords.{words-equal}
+use Rattle.bytewords.proofs.ByteWords.{words-equal}
 use Rattle.samebytes.specs.SameBytes.{SameSoFar}
 use Rattle.samebytes.proofs.SameBytes.{more-read, part-differs}
 use borrow.Author.Needs.{needs}

@@ -1,7 +1,8 @@
 -- `put_request` meets its contract: the request, a blank and the history.
 use mathlib.Core.List.{[], _∷_}
 use native.Mathlib.Omega.{arith}
-use Rattle.definitions.specs.Shelf.{blank, newline, historyText}
+use Rattle.definitions.specs.Characters.{blank, newline}
+use Rattle.definitions.specs.Shelf.{historyText}
 use Rattle.text.proofs.Puts.{then, then-both}
 use borrow.Author.Needs.{needs}
 use Rattle.booktext.proofs.findings.put_request.Statement.{statement}

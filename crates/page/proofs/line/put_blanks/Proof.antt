@@ -3,7 +3,7 @@ use mathlib.Core.Path.{_≡_, refl}
 use Prim.Native.Nat.{_+_, _-_, _≤_}
 use native.Mathlib.Omega.{arith}
 use lib.ListN.{length, replicate, length-set}
-use Rattle.definitions.specs.Shelf.{blank}
+use Rattle.definitions.specs.Characters.{blank}
 use Rattle.text.specs.Put.{Put}
 use Rattle.page.proofs.Columns.{blank-turn}
 use borrow.Author.Needs.{needs}

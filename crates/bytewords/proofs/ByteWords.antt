@@ -10,7 +10,7 @@ use native.Mathlib.Decide.{decLt}
 use lib.Bits.{bitOr, bitXor, and-le-l, and-le-r, or-add-and, xor-add-and, xor-self}
 use lib.Dec.{lit<}
 use lib.ListN.{getD}
-use Rattle.automaton.specs.ByteWords.{halfAt, wordAt, HalfBytes, WordBytes, SamePart}
+use Rattle.bytewords.specs.ByteWords.{halfAt, wordAt, HalfBytes, WordBytes, SamePart}
 
 -- ---- parts of two strings
 module _ (xs ys : List ℕ) (j k : ℕ) where

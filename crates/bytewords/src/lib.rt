@@ -2,8 +2,8 @@
 ghost use mathlib.Core.Path.{_≡_};
 ghost use Prim.Native.Nat.{_+_, _≤_};
 ghost use lib.ListN.{length};
-ghost use Rattle.automaton.specs.ByteWords.{halfAt, wordAt, HalfBytes, WordBytes};
-use crate::wide;
+ghost use Rattle.bytewords.specs.ByteWords.{halfAt, wordAt, HalfBytes, WordBytes};
+use automaton::wide;
 
 // Four bytes from place k on as one number, the first lowest.
 fn half(bytes: &[u8], k: usize) -> usize
