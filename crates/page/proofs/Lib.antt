@@ -1,5 +1,5 @@
 -- Laws that belong to no one function.
-pub mod Columns
+pub mod PageColumns
 pub mod NotedDepths
 pub mod WrittenLines
 pub mod PageAnswers

@@ -21,7 +21,7 @@ use Rattle.search.proofs.FirstFound.{none-below, first-below, first-of-front}
 use Rattle.search.proofs.SearchTurns.{SearchTurn, searched-begun, searched-few, searched-next, searched-front, searched-turn, searched-done, searched-all}
 use Rattle.search.proofs.TableRows.{book-rows, book-count, book-states, states-few}
 use Rattle.way.specs.FirstState.{rowsOf, isGoal, NoneBelow, OnlyLast, VisitedFor, AtLevel, nextLength, nextEnd, FirstState}
-use Rattle.way.proofs.Levels.{level-begun, visited-grown, level-visited, level-next}
+use Rattle.way.proofs.SearchLevels.{level-begun, visited-grown, level-visited, level-next}
 use Rattle.way.specs.declared.goal.Goal.{Goal}
 
 -- i states have been visited, n are found, and none of them is a goal; the level is known

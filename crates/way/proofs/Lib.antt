@@ -1,6 +1,6 @@
 -- Laws that belong to no one function.
 pub mod VisitTurns
-pub mod Levels
+pub mod SearchLevels
 pub mod FirstStates
 pub mod ShownWays
 pub mod WayAnswers

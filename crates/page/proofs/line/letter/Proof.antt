@@ -2,7 +2,7 @@
 use mathlib.Core.Path.{sym, _∙_}
 use mathlib.Core.Logic.{⊎-elim}
 use native.Mathlib.Omega.{arith}
-use Rattle.page.proofs.Columns.{letter-none, letter-reject, letter-accept, letter-both}
+use Rattle.page.proofs.PageColumns.{letter-none, letter-reject, letter-accept, letter-both}
 use Rattle.page.proofs.line.letter.Statement.{statement}
 use Rattle.page.proofs.line.letter.Tie as tie
 

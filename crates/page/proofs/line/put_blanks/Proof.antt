@@ -5,7 +5,7 @@ use native.Mathlib.Omega.{arith}
 use lib.ListN.{length, replicate, length-set}
 use Rattle.definitions.specs.Characters.{blank}
 use Rattle.text.specs.Put.{Put}
-use Rattle.page.proofs.Columns.{blank-turn}
+use Rattle.page.proofs.PageColumns.{blank-turn}
 use borrow.Author.Needs.{needs}
 use Rattle.page.proofs.line.put_blanks.Statement.{statement}
 use Rattle.page.proofs.line.put_blanks.Tie as tie

@@ -1,7 +1,7 @@
 -- `put_length` meets its contract: dashes, or the number.
 use mathlib.Core.Path.{_≡_}
 use native.Mathlib.Omega.{arith}
-use Rattle.page.proofs.Columns.{depth-none, depth-some}
+use Rattle.page.proofs.PageColumns.{depth-none, depth-some}
 use borrow.Author.Needs.{needs}
 use Rattle.page.proofs.line.put_length.Statement.{statement}
 use Rattle.page.proofs.line.put_length.Tie as tie

@@ -6,7 +6,7 @@ use lib.ListN.{length, length-set}
 use Rattle.automaton.specs.Below.{listBelow}
 use Rattle.text.specs.Put.{Put}
 use Rattle.page.specs.LineColumns.{letterIn}
-use Rattle.page.proofs.Columns.{column-turn}
+use Rattle.page.proofs.PageColumns.{column-turn}
 use borrow.Author.Needs.{needs}
 use Rattle.page.proofs.line.put_letters.Statement.{statement}
 use Rattle.page.proofs.line.put_letters.Tie as tie

@@ -1,7 +1,7 @@
 -- `put_number` meets its contract by the number of digits.
 use native.Mathlib.Omega.{arith}
 use Rattle.definitions.proofs.PageLines.{columns-length}
-use Rattle.page.proofs.Columns.{columns-of-one, columns-of-two, columns-of-three}
+use Rattle.page.proofs.PageColumns.{columns-of-one, columns-of-two, columns-of-three}
 use borrow.Author.Needs.{needs}
 use Rattle.page.proofs.line.put_number.Statement.{statement}
 use Rattle.page.proofs.line.put_number.Tie as tie

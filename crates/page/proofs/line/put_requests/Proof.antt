@@ -5,7 +5,7 @@ use lib.ListN.{length, length-drop}
 use Rattle.automaton.proofs.Below.{length-list-below}
 use Rattle.automaton.proofs.Loops.{part-is-drop}
 use Rattle.book.proofs.Places.{row-inside}
-use Rattle.page.proofs.Columns.{put-over, columns-all}
+use Rattle.page.proofs.PageColumns.{put-over, columns-all}
 use borrow.Author.Needs.{needs}
 use Rattle.page.proofs.line.put_requests.Statement.{statement}
 use Rattle.page.proofs.line.put_requests.Tie as tie

@@ -2,7 +2,7 @@
 use native.Mathlib.Omega.{arith}
 use Rattle.text.proofs.Puts.{then}
 use Rattle.text.proofs.Room.{front}
-use Rattle.page.proofs.Columns.{line-parts}
+use Rattle.page.proofs.PageColumns.{line-parts}
 use borrow.Author.Needs.{needs}
 use Rattle.page.proofs.line.write_line.Statement.{statement}
 use Rattle.page.proofs.line.write_line.Tie as tie
