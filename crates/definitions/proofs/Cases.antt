@@ -19,7 +19,7 @@ use Rattle.definitions.specs.Opened.{openAnswer, tellAnswer, stepRefusal
 use Rattle.definitions.specs.Shelf.{shelfText}
 use Rattle.definitions.specs.Page.{page, pageAnswer, pageBuffer}
 use Rattle.definitions.specs.Way.{way, wayAnswer, wayBuffer}
-use Rattle.definitions.specs.Cases.Table.{cases}
+use Rattle.definitions.specs.Cases.AllCases.{cases}
 use Rattle.definitions.specs.Cases.Claim.{Claim, number, says, bytes, rows, found, history, builds, finds, compares, tells, Holds, test, sameRows, sameOption, sameAnswer, sameFound, sameFindings, sameTelling}
 
 abbrev fails : Claim → Bool

@@ -4,14 +4,14 @@ pub mod Samples
 pub mod Document
 pub mod Several
 pub mod Khoumsi
-pub mod Parts
+pub mod ReadBytes
 pub mod Refusals
 pub mod Limits
-pub mod Places
+pub mod EachByte
 pub mod Calls
 pub mod Starts
 pub mod Pages
 pub mod Ways
 pub mod NoRules
 pub mod Large
-pub mod Table
+pub mod AllCases

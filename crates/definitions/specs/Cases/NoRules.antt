@@ -15,7 +15,7 @@ use Rattle.definitions.specs.Way.{way}
 use Rattle.definitions.specs.Demands.{eventsRow}
 use Rattle.definitions.specs.Cases.Claim.{Claim, number, bytes, found, history, builds}
 use Rattle.definitions.specs.Cases.Samples.{policy, ruleOf, lent, missingAndBlockedAfter}
-use Rattle.definitions.specs.Cases.Places.{numbersWith}
+use Rattle.definitions.specs.Cases.EachByte.{numbersWith}
 
 -- a policy without rules: its version, E events, the value counts, P variables; the starting values of version 2 and the changes of events behind them
 abbrev noRules : ℕ → ℕ → List ℕ → ℕ → List ℕ → List ℕ

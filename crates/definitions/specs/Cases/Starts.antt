@@ -10,7 +10,7 @@ use Rattle.definitions.specs.Build.{bookOf, bookRows}
 use Rattle.definitions.specs.Compare.{comparison}
 use Rattle.definitions.specs.Cases.Claim.{Claim, number, bytes, rows, history}
 use Rattle.definitions.specs.Cases.Samples.{policy, withStarts, policyA, policyS, bookA, twoBounds}
-use Rattle.definitions.specs.Cases.Places.{mixed, numbersWith}
+use Rattle.definitions.specs.Cases.EachByte.{mixed, numbersWith}
 
 -- A as a file of version 2
 abbrev startedA : ℕ → List ℕ

@@ -7,7 +7,7 @@ use Rattle.definitions.specs.Build.{bookOf}
 use Rattle.definitions.specs.Way.{way, wayAnswer, wayBuffer}
 use Rattle.definitions.specs.Cases.Claim.{Claim, number, bytes, history, compares}
 use Rattle.definitions.specs.Cases.Samples.{policyE, policyG, bookA, foreign, misnumbered, chain, lent}
-use Rattle.definitions.specs.Cases.Places.{bookOfMixed}
+use Rattle.definitions.specs.Cases.EachByte.{bookOfMixed}
 
 abbrev pub wayCases : List Claim
 wayCases =

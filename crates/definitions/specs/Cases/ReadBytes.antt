@@ -9,8 +9,8 @@ use Rattle.definitions.specs.Cases.Claim.{Claim, number, bytes}
 use Rattle.definitions.specs.Cases.Samples.{policy, policyA, bookA}
 use Rattle.definitions.specs.Cases.Several.{several, wide}
 
-abbrev pub partCases : List Claim
-partCases =
+abbrev pub readCases : List Claim
+readCases =
     number (byte (5 ∷ 6 ∷ []) 1) 6
     ∷ number (byte (5 ∷ 6 ∷ []) 2) 0
     -- "its number r starts at 0 and comes from r = first value, then for each later field r × (its count) + value"

@@ -67,8 +67,8 @@ bookNumbers = 12 ∷ 12 ∷ 12 ∷ 12 ∷ 12 ∷ 13 ∷ 13 ∷ 13 ∷ 13 ∷ 13 
 abbrev bookNumbersOfZero : List ℕ
 bookNumbersOfZero = 12 ∷ 12 ∷ 12 ∷ 0 ∷ 12 ∷ 13 ∷ 13 ∷ 13 ∷ 13 ∷ 0 ∷ 0 ∷ 13 ∷ concat (replicate 10 (14 ∷ 14 ∷ 14 ∷ 0 ∷ 0 ∷ 0 ∷ 0 ∷ []))
 
-abbrev pub placeCases : List Claim
-placeCases =
+abbrev pub eachByteCases : List Claim
+eachByteCases =
     bytes (bookOf mixed) bookOfMixed
     ∷ bytes (shelfText mixed) textOfMixed
     ∷ bytes (numbersWith policyRefusal mixed 255) policyNumbers
