@@ -24,4 +24,4 @@ pub mod Labels
 pub mod Separation
 pub mod PairQueue
 pub mod Pair
-pub mod SmallTables
+pub mod Cases
