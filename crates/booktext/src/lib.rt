@@ -6,11 +6,11 @@ ghost use Rattle.definitions.specs.Refusal.{bookRefusal};
 ghost use Rattle.text.specs.Put.{Put};
 ghost use Rattle.booktext.specs.Forms.{textOf, roomOf};
 
-mod findings;
 mod hex;
+mod lines;
 
-use findings::put_book;
 use hex::put_hex_line;
+use lines::put_book;
 
 // Which text is written of a book.
 pub enum Form {

@@ -5,7 +5,8 @@ ghost use Prim.Native.Nat.{ℕ, _*_, _^_, _<_};
 ghost use lib.ListN.{length};
 ghost use Rattle.build.specs.BuiltAnswer.{builtAnswer};
 ghost use Rattle.page.specs.PageAnswer.{pagedAnswer};
-ghost use Rattle.verdict.specs.VerdictAnswer.{foundOf, blockedOf, judgedAnswer};
+ghost use Rattle.findings.specs.FindingsOf.{foundOf, blockedOf};
+ghost use Rattle.verdict.specs.VerdictAnswer.{judgedAnswer};
 ghost use Rattle.verdict.specs.AnswerBounds.{BlockedWithin, FindingWithin, FindingsWithin, JudgedWithin};
 ghost use Rattle.way.specs.ShownAnswer.{shownAnswer};
 ghost use Rattle.compare.specs.ComparedAnswer.{comparedAnswer};
@@ -13,10 +14,10 @@ ghost use Rattle.packing.specs.Packing.{packed, equalOrNot, bookLength, 
 ghost use Rattle.packing.specs.PackedBounds.{BuiltWithin, PagedWithin, ShownWithin, ComparedWithin};
 use build::Built;
 use compare::Compared;
+use findings::Blocked;
+use findings::Finding;
+use findings::Findings;
 use page::Paged;
-use verdict::Blocked;
-use verdict::Finding;
-use verdict::Findings;
 use verdict::Judged;
 use way::Shown;
 

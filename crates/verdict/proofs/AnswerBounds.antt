@@ -8,12 +8,13 @@ use lib.ListN.{length}
 use Rattle.automaton.specs.History.{History}
 use Rattle.definitions.specs.Verdict as Verdict
 use Rattle.definitions.proofs.Written.{length-taken}
-use Rattle.verdict.specs.VerdictAnswer.{foundOf, blockedOf, judgedAnswer}
+use Rattle.findings.specs.FindingsOf.{foundOf, blockedOf}
+use Rattle.verdict.specs.VerdictAnswer.{judgedAnswer}
 use Rattle.verdict.specs.AnswerBounds.{BlockedWithin, FindingWithin, JudgedWithin}
-use Rattle.verdict.specs.declared.finding.Finding as F
-use Rattle.verdict.specs.declared.finding.Finding.the-variants as Finding
-use Rattle.verdict.specs.declared.finding.Blocked as B
-use Rattle.verdict.specs.declared.finding.Blocked.the-variants as Blocked
+use Rattle.findings.specs.declared.finding.Finding as F
+use Rattle.findings.specs.declared.finding.Finding.the-variants as Finding
+use Rattle.findings.specs.declared.finding.Blocked as B
+use Rattle.findings.specs.declared.finding.Blocked.the-variants as Blocked
 use Rattle.verdict.specs.declared.Judged.{Judged}
 use Rattle.verdict.specs.declared.Judged.the-variants as Judged
 use Rattle.verdict.proofs.SmallFindings.{SmallFound, given-small}

@@ -1,9 +1,4 @@
 -- Laws that belong to no one function.
-pub mod LowestBelow
-pub mod SoughtRequests
-pub mod RequestFindings
-pub mod MarkRounds
-pub mod BlockedStates
 pub mod VerdictAnswer
 pub mod SmallFindings
 pub mod AnswerBounds

@@ -1,10 +1,10 @@
 -- Answers whose numbers are at most the given ones, so that their histories lie within the buffers.
 use Prim.Native.Nat.{ℕ, _≤_, _<_}
-use Rattle.verdict.specs.declared.finding.Finding as F
-use Rattle.verdict.specs.declared.finding.Finding.the-variants as Finding
-use Rattle.verdict.specs.declared.finding.Blocked as B
-use Rattle.verdict.specs.declared.finding.Blocked.the-variants as Blocked
-use Rattle.verdict.specs.declared.Findings.{Findings}
+use Rattle.findings.specs.declared.finding.Finding as F
+use Rattle.findings.specs.declared.finding.Finding.the-variants as Finding
+use Rattle.findings.specs.declared.finding.Blocked as B
+use Rattle.findings.specs.declared.finding.Blocked.the-variants as Blocked
+use Rattle.findings.specs.declared.Findings.{Findings}
 use Rattle.verdict.specs.declared.Judged.{Judged}
 use Rattle.verdict.specs.declared.Judged.the-variants as Judged
 

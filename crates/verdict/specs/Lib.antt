@@ -1,4 +1,2 @@
-pub mod SoughtRequests
-pub mod Marks
 pub mod VerdictAnswer
 pub mod AnswerBounds

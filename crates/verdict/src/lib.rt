@@ -1,48 +1,15 @@
 // The verdict on a book: three findings over all histories possible in it. Row 1 (the buffers) is decided here; stated in definitions/specs/Verdict.antt.
 ghost use mathlib.Core.Path.{_≡_};
-ghost use Rattle.definitions.specs.Answer.{given};
-ghost use Rattle.definitions.specs.Verdict.{findings, verdictRefusal, verdictAnswer, verdictBuffers};
+ghost use Rattle.definitions.specs.Verdict.{verdictRefusal, verdictAnswer, verdictBuffers};
 ghost use Rattle.verdict.specs.VerdictAnswer.{judgedAnswer, buffersAfter};
-
-mod finding;
-mod marks;
-mod requests;
-
-use book::width_from;
 use bookcheck::refusal;
-pub use finding::Blocked;
-pub use finding::Finding;
-use finding::find;
-use finding::find_blocked;
-use requests::Sought;
-use search::explore_book;
-
-// The three findings. The history of each that is found is at the front of its buffer.
-pub struct Findings {
-    pub conflict: Finding,
-    pub missing: Finding,
-    pub blocked: Blocked,
-}
+use findings::Findings;
+use findings::find_all;
 
 // What a verdict returns: the number of the row that refuses the call, or the findings.
 pub enum Judged {
     Refused(usize),
     Given(Findings),
-}
-
-// The findings on a book. The history of each that is found goes to the front of its buffer; the bytes after it are unchanged, and so is all of the buffer
-// of a finding that is none, and all of each on a refusal.
-pub fn verdict(book: &[u8], conflict: &mut [u8], missing: &mut [u8], blocked: &mut [u8]) -> Judged
-    ensures { λ r. ⌜ judgedAnswer r (now (conflict .exit)) (now (missing .exit)) (now (blocked .exit))
-        ≡ verdictAnswer (now (book .entry)) (now (conflict .entry)) (now (missing .entry)) (now (blocked .entry)) ⌝ }
-    ensures { λ _. ⌜ buffersAfter (now (conflict .exit)) (now (missing .exit)) (now (blocked .exit))
-        ≡ verdictBuffers (now (book .entry)) (now (conflict .entry)) (now (missing .entry)) (now (blocked .entry)) ⌝ }
-{
-    let number = refused_by(book, conflict, missing, blocked);
-    if number != 0 {
-        return Judged::Refused(number);
-    }
-    judge(book, conflict, missing, blocked)
 }
 
 // The number of the lowest row that refuses the call, 0 if none does: row 1 for each buffer, then rows 12 to 14.
@@ -61,25 +28,17 @@ fn refused_by(book: &[u8], conflict: &[u8], missing: &[u8], blocked: &[u8]) -> u
     refusal(book)
 }
 
-// A call that no row refuses.
-fn judge(book: &[u8], conflict: &mut [u8], missing: &mut [u8], blocked: &mut [u8]) -> Judged
-    requires { ⌜ verdictRefusal (now book) (now conflict) (now missing) (now blocked) ≡ 0 ⌝ }
-    ensures { λ r. ⌜ judgedAnswer r (now (conflict .exit)) (now (missing .exit)) (now (blocked .exit)) ≡ given (findings (now (book .entry))) ⌝ }
+// The findings on a book. The history of each that is found goes to the front of its buffer; the bytes after it are unchanged, and so is all of the buffer
+// of a finding that is none, and all of each on a refusal.
+pub fn verdict(book: &[u8], conflict: &mut [u8], missing: &mut [u8], blocked: &mut [u8]) -> Judged
+    ensures { λ r. ⌜ judgedAnswer r (now (conflict .exit)) (now (missing .exit)) (now (blocked .exit))
+        ≡ verdictAnswer (now (book .entry)) (now (conflict .entry)) (now (missing .entry)) (now (blocked .entry)) ⌝ }
     ensures { λ _. ⌜ buffersAfter (now (conflict .exit)) (now (missing .exit)) (now (blocked .exit))
         ≡ verdictBuffers (now (book .entry)) (now (conflict .entry)) (now (missing .entry)) (now (blocked .entry)) ⌝ }
 {
-    let q = book::requests(book);
-    let w = width_from(book, q);
-    let mut order = [0u8; 128];
-    let mut trail = [0u8; 256];
-    let mut numbers = [0u8; 128];
-    let n = explore_book(book, w, &mut order, &mut trail, &mut numbers);
-    let first = find(book, q, &order, &trail, n, Sought::Conflict, conflict);
-    let second = find(book, q, &order, &trail, n, Sought::Missing, missing);
-    let third = find_blocked(book, q, &order, &trail, n, second, blocked);
-    Judged::Given(Findings {
-        conflict: first,
-        missing: second,
-        blocked: third,
-    })
+    let number = refused_by(book, conflict, missing, blocked);
+    if number != 0 {
+        return Judged::Refused(number);
+    }
+    Judged::Given(find_all(book, conflict, missing, blocked))
 }

@@ -1,0 +1,3 @@
+pub mod SoughtRequests
+pub mod Marks
+pub mod FindingsOf
