@@ -15,11 +15,11 @@ pub both_true : {a b : Bool} → a ≡ true → b ≡ true → (a && b) ≡ true
 both_true p q = rw p q
 
 -- `if !test(..)`: the test t, whose answer was r
-pub held : (r t : Bool) → r ≡ t → not r ≡ false → t ≡ true
-held r t e n = sym e ∙ not-false r n
+pub held : (r t : Bool) → r ≡ t → r ≡ true → t ≡ true
+held r t e n = sym e ∙ n
 
-pub failed : (r t : Bool) → r ≡ t → not r ≡ true → t ≡ false
-failed r t e n = sym e ∙ not-true r n
+pub failed : (r t : Bool) → r ≡ t → r ≡ false → t ≡ false
+failed r t e n = sym e ∙ n
 
 -- no row fits where the first does not and no later one does
 pub judge-zero : (number : ℕ) (passes : Bool) (later : ℕ) → (judge (suc number) passes later ≡ 0) ↔ ((passes ≡ true) × (later ≡ 0))

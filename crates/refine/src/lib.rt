@@ -124,6 +124,6 @@ pub fn refine_all(raw: &[u8], w: usize, classes: &mut [u8], next: &mut [u8])
     let mut moved = ALL_STATES;
     while moved != 0 {
         moved = round(raw, w, &leads, moved, classes, next);
-        bytes::copy(next, classes);
+        classes.copy_from_slice(next);
     }
 }

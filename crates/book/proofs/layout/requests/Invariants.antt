@@ -1,0 +1,14 @@
+use Prim.Native.Nat.{◌-◌, ◌≤◌}
+use native.Mathlib.Omega.{arith}
+use mathlib.Core.Path.{◌≡◌}
+use borrow.Author.Rules.{rules}
+use Rattle.definitions.specs.Bytes.{byte}
+use Rattle.definitions.specs.Book.{count}
+use Rattle.definitions.proofs.Products.{Multiplied, multiplied_none, multiplied_more, next_fits}
+use Rattle.book.proofs.layout.requests.Given as goal
+
+abbrev pub invariant-loop-f : goal.invariant-loop-f
+invariant-loop-f l = (l.f ≤ l.fields) × Multiplied (count l.book) l.f l.product
+
+abbrev pub decreases-loop-f : goal.decreases-loop-f
+decreases-loop-f l = l.fields - l.f

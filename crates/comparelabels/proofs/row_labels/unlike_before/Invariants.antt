@@ -1,0 +1,13 @@
+use mathlib.Core.Path.{◌≡◌}
+use Prim.Native.Nat.{◌-◌, ◌≤◌}
+use native.Mathlib.Omega.{arith}
+use Rattle.comparelabels.specs.RowLabels.{SameLabel}
+use Rattle.comparelabels.proofs.FirstFailing.{Throughout, through_one, fails-here, fails-nowhere}
+use borrow.Author.Rules.{rules}
+use Rattle.comparelabels.proofs.row_labels.unlike_before.Given as goal
+
+abbrev pub invariant-loop-k : goal.invariant-loop-k
+invariant-loop-k l = (l.from ≤ l.k) × (l.k ≤ l.end) × Throughout (SameLabel l.one l.other l.base l.label) l.from l.k
+
+abbrev pub decreases-loop-k : goal.decreases-loop-k
+decreases-loop-k l = l.end - l.k

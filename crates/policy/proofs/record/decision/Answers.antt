@@ -1,0 +1,6 @@
+-- `policy::record::decision` meets its contract.
+use borrow.Author.Rules.{rules}
+use Rattle.policy.proofs.record.decision.Goals as goal
+
+pub returns : goal.returns
+returns c = rw (← c.fields.ensures.0) c.wide.ensures

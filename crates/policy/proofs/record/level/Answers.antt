@@ -1,0 +1,6 @@
+-- `policy::record::level` meets its contract.
+use borrow.Author.Rules.{rules}
+use Rattle.policy.proofs.record.level.Goals as goal
+
+pub returns : goal.returns
+returns c = rw (← c.fields.ensures.0) c.wide.ensures

@@ -1,0 +1,6 @@
+-- `policy::record::lt` meets its contract.
+use borrow.Author.Rules.{rules}
+use Rattle.policy.proofs.record.lt.Goals as goal
+
+pub returns : goal.returns
+returns c = rw (← c.fields.ensures.0) c.wide.ensures

@@ -1,0 +1,14 @@
+use mathlib.Core.Path.{◌≡◌}
+use Prim.Native.Nat.{◌≤◌, ◌<◌, ◌-◌}
+use native.Mathlib.Omega.{arith}
+use Rattle.automaton.specs.Below.{fold_below}
+use Rattle.automaton.proofs.Loops.{fold_more}
+use Rattle.definitions.specs.Policy.{rules}
+use Rattle.definitions.specs.Valuation.{greatest_tested}
+use Rattle.policy.proofs.valuation.bound.Given as goal
+
+abbrev pub invariant-loop-k : goal.invariant-loop-k
+invariant-loop-k l = (l.k ≤ l.n) × (l.most ≡ fold_below l.k 0 (greatest_tested l.policy l.j)) × (l.most < 256)
+
+abbrev pub decreases-loop-k : goal.decreases-loop-k
+decreases-loop-k l = l.n - l.k

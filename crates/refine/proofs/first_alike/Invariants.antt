@@ -1,0 +1,14 @@
+use Rattle.refine.proofs.Rounds.{search-begins, search-ends, search-found, search-passed}
+use Rattle.refine.specs.Rounds.{next_round}
+use Rattle.definitions.specs.Bytes.{byte}
+use native.Mathlib.Omega.{arith}
+use Prim.Native.Nat.{◌-◌, ◌≤◌}
+use mathlib.Core.Path.{sym, ◌∙◌}
+use borrow.Author.Rules.{rules}
+use Rattle.refine.proofs.first_alike.Given as goal
+
+abbrev pub invariant-loop-t : goal.invariant-loop-t
+invariant-loop-t l = (1 ≤ l.t) × (l.t ≤ byte (next_round l.raw l.w l.classes) l.s)
+
+abbrev pub decreases-loop-t : goal.decreases-loop-t
+decreases-loop-t l = l.s - l.t

@@ -1,0 +1,12 @@
+use mathlib.Core.Path.{◌≡◌, sym, ◌∙◌}
+use native.Mathlib.Omega.{arith}
+use Rattle.refine.proofs.RoundSequence.{copied}
+use Rattle.refine.proofs.Refinement.{AfterRounds, rounds_left, refining_begun, refining_turn, refining_less}
+use borrow.Author.Rules.{rules}
+use Rattle.refine.proofs.refine_all.Given as goal
+
+abbrev pub invariant-loop-moved : goal.invariant-loop-moved
+invariant-loop-moved l = AfterRounds l.raw l.w l.leads l.initial.classes l.classes l.next l.moved
+
+abbrev pub decreases-loop-moved : goal.decreases-loop-moved
+decreases-loop-moved l = rounds_left l.classes l.moved

@@ -1,0 +1,14 @@
+use Prim.Native.Nat.{◌-◌}
+use native.Mathlib.Omega.{arith}
+use lib.ListN.{length}
+use Rattle.bytewords.proofs.ByteWords.{part_of_one}
+use Rattle.samebytes.specs.SameBytes.{SameSoFar}
+use Rattle.samebytes.proofs.SameBytes.{more_read, part_differs, all_read}
+use borrow.Author.Rules.{rules}
+use Rattle.samebytes.proofs.same_single_bytes.Given as goal
+
+abbrev pub invariant-loop-k : goal.invariant-loop-k
+invariant-loop-k l = SameSoFar l.first l.second l.k
+
+abbrev pub decreases-loop-k : goal.decreases-loop-k
+decreases-loop-k l = length l.first - l.k

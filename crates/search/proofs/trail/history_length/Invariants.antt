@@ -1,0 +1,10 @@
+use native.Mathlib.Omega.{arith}
+use Rattle.search.proofs.Trails.{Counted, counted_begun, counted-few, counted-turn, counted-done, parent-low}
+use borrow.Author.Rules.{rules}
+use Rattle.search.proofs.trail.history_length.Given as goal
+
+abbrev pub invariant-loop-k : goal.invariant-loop-k
+invariant-loop-k l = Counted l.trail l.i l.k l.n
+
+abbrev pub decreases-loop-k : goal.decreases-loop-k
+decreases-loop-k l = l.k
