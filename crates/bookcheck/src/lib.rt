@@ -2,10 +2,10 @@
 ghost use Rattle.std.specs.Prelude.{◌≡◌, ◌+◌, ◌-◌, ◌*◌, ◌≤◌, eqb, length};
 ghost use Rattle.automaton.specs.Below.{all_below, list_below};
 ghost use Rattle.definitions.specs.Book as Book;
-ghost use Rattle.definitions.specs.Bytes.{within as isWithin};
+ghost use Rattle.definitions.specs.Bytes.{within as is_within};
 ghost use Rattle.definitions.specs.Refusal.{is_marked, count_holds, entries_hold, book_refusal};
 ghost use Rattle.bookcheck.specs.Layout.{header_requests, laid_out_width};
-ghost use Rattle.bookcheck.specs.Entries.{greatest as greatestOf, is_possible, events_possible, lesser};
+ghost use Rattle.bookcheck.specs.Entries.{greatest as greatest_of, is_possible, events_possible, lesser};
 ghost use Rattle.definitions.specs.Checked.{BookHeader, BookLayout};
 
 use automaton::wide;
@@ -29,7 +29,7 @@ pub fn refusal(book: &[u8]) -> usize
 }
 
 fn within(low: usize, x: usize, high: usize) -> bool
-    ensures { result ≡ isWithin low x high }
+    ensures { result ≡ is_within low x high }
 {
     if x < low {
         return false;
@@ -145,7 +145,7 @@ fn entries_hold(book: &[u8], w: usize) -> bool
 // The greatest entry of all rows.
 fn greatest(book: &[u8]) -> u8
     requires { 12 ≤ length book.now }
-    ensures { result ≡ greatestOf book.now (length book.now - 12) }
+    ensures { result ≡ greatest_of book.now (length book.now - 12) }
 {
     let mut most = 0;
     let mut at = 12;

@@ -1,7 +1,6 @@
 -- `lower` meets its contract: the bytes passed so far are lowered, the others are as they were.
 use Prim.Native.Nat.{ℕ, min, ◌+◌, ◌-◌, ◌<◌}
 use mathlib.Core.Path.{◌≡◌, ap, ◌∙◌}
-use mathlib.Core.Logic.{⊎_elim}
 use native.Mathlib.Omega.{arith}
 use lib.ListN.{length}
 use borrow.Author.Rules.{rules}
@@ -9,6 +8,7 @@ use Rattle.automaton.specs.Below.{list_below}
 use Rattle.definitions.specs.Bytes.{byte}
 use Rattle.bookcheck.specs.Entries.{lesser}
 use Rattle.automaton.proofs.FilledList.{FilledUpTo, filled_begun, filled_next, filled_turn, filled_done}
+use Rattle.bookcheck.proofs.lower.Goals.{then-x-y, else-x-y}
 use Rattle.bookcheck.proofs.lower.Goals as goal
 
 pub loop-c-init : goal.loop-c-init
@@ -26,7 +26,7 @@ loop-c-preserved c =
     let a = c.args in
     let x = byte a.book.now (a.at + l.c) in
     let room : l.c < length a.least.now = omega arith in
-    let e : c.if-x-y.least ≡ min (byte l.least l.c) x = ⊎_elim (λ w. omega arith) (λ w. omega arith) c.if-x-y.branch in
+    let e : c.if-x-y.least ≡ min (byte l.least l.c) x = elim c.if-x-y.branch [ then-x-y w ↦ omega arith | else-x-y w ↦ omega arith ] in
     filled_turn l.invariant room (e ∙ ap (λ (old : ℕ). min old x) (filled_next l.invariant room))
 
 pub shape_of-least : goal.shape_of-least

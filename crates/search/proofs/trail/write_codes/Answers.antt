@@ -5,7 +5,7 @@ use Rattle.search.proofs.Trails.{Writing, writing-begun, writing-some, writing-f
 use Rattle.search.proofs.trail.write_codes.Goals as goal
 
 pub loop-k-init : goal.loop-k-init
-loop-k-init c = let p = (c.requires.earlier_parents, c.requires.i_in_bounds_2) in writing-begun _ _ p _ _ p.1
+loop-k-init c = writing-begun _ _ c.requires.earlier_parents _ _ c.requires.i_in_bounds_2.1
 
 pub overflow_sub-j : goal.overflow_sub-j
 overflow_sub-j c = writing-some _ _ c.requires.earlier_parents _ _ _ _ c.loop-k.invariant c.loop-k-test.true
