@@ -7,7 +7,7 @@ ghost use Rattle.book.specs.Tellings.{telling_of};
 
 use crate::layout::{entry, events};
 
-#[derive(Drop)]
+#[derive(Clone, Copy)]
 pub enum Telling {
     None,
     Accept,

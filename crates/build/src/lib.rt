@@ -56,7 +56,7 @@ fn write_book(book: &mut [u8], policy: &[u8], raw: &[u8], n: usize, w: usize) ->
 }
 
 // What building returns: the number of the row that refuses the call, or the length of the book that was written.
-#[derive(Drop)]
+#[derive(Clone, Copy)]
 pub enum Built {
     Refused(usize),
     Written(usize),

@@ -19,21 +19,21 @@ use automaton::wide;
 use search::write_history;
 
 // A finding with a request: none, or the request and how many codes its history has.
-#[derive(Drop)]
+#[derive(Clone, Copy)]
 pub enum Finding {
     None,
     Found { request: usize, length: usize },
 }
 
 // The finding that no request is answered: none, or how many codes its history has.
-#[derive(Drop)]
+#[derive(Clone, Copy)]
 pub enum Blocked {
     None,
     After { length: usize },
 }
 
 // A state with a request that is sought, by its place, and the lowest such request.
-#[derive(Drop)]
+#[derive(Clone, Copy)]
 struct Hit {
     place: usize,
     request: usize,

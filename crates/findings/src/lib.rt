@@ -17,7 +17,7 @@ use requests::Sought;
 use search::explore_book;
 
 // The three findings. The history of each that is found is at the front of its buffer.
-#[derive(Drop)]
+#[derive(Clone, Copy)]
 pub struct Findings {
     pub conflict: Finding,
     pub missing: Finding,

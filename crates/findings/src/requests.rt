@@ -9,7 +9,7 @@ ghost use Rattle.findings.specs.SoughtRequests.{is_none, is_both, sought_by, tes
 use book::{Telling, telling_at, width_from};
 
 // What is looked for: a request that may be both accepted and rejected, one that may be neither, or one that may be either.
-#[derive(Drop)]
+#[derive(Clone, Copy)]
 pub enum Sought {
     Conflict,
     Missing,

@@ -21,7 +21,7 @@ use Rattle.definitions.specs.Bytes.{bit}
 use Rattle.definitions.specs.Situation.{empty_set, insert}
 use Rattle.images.specs.Choice.{level_at, decision_at, with_decided, with_target, with_most, level_in, greatest, with_chosen, chosen_by, leading, Listed, Chosen, chosen_for}
 use Rattle.images.specs.declared.deciding.Choice.{Choice}
-use Rattle.rules.proofs.RuleSets.{bit_and, none_from, Member}
+use Rattle.rules.proofs.RuleSets.{bit_and_law, none_from, Member}
 
 -- turns that change nothing can be left out
 pub fold_idle : (f : ℕ → ℕ → ℕ) (a k n : ℕ) → k ≤ n → ((i x : ℕ) → k ≤ i → i < n → f i x ≡ x) → fold_below n a f ≡ fold_below k a f
@@ -132,7 +132,7 @@ module _ (fits : ℕ) (ranks targets : List ℕ) where
 
 -- every rule that matches a request and is enabled has its entries
 pub listed_both : (a b : ℕ) (ranks targets : List ℕ) → Listed b ranks targets → Listed (bit_and a b) ranks targets
-listed_both a b ranks targets h k e = h k (and-true (bit a k) (bit b k) (sym (bit_and a b k) ∙ e)).1
+listed_both a b ranks targets h k e = h k (and-true (bit a k) (bit b k) (sym (bit_and_law a b k) ∙ e)).1
 
 -- both sets of request r are stored
 pub decided_turn : (sets : List ℕ) (enabled : ℕ) (ranks targets : List ℕ) (r : ℕ) (choice : Choice) (before after : List ℕ) → 2 * r + 2 ≤ length before

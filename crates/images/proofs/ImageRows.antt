@@ -24,7 +24,7 @@ use Rattle.rules.specs.Arrays.{entry_of, Tabled}
 use Rattle.rules.specs.RuleSets.{rule_admits, matching, rule_enabled, enabling}
 use Rattle.rules.specs.Changes.{Valued}
 use Rattle.rules.proofs.Arrays.{tabled_part}
-use Rattle.rules.proofs.RuleSets.{bit_and, bit-passing, passing-below}
+use Rattle.rules.proofs.RuleSets.{bit_and_law, bit-passing, passing-below}
 use Rattle.rules.proofs.Values.{enabling-same}
 use Rattle.rules.proofs.Changes.{carried_low}
 use Rattle.images.specs.Choice.{level_at, decision_at, Listed, level_in, with_most, greatest, with_chosen, leading, chosen_for}
@@ -78,11 +78,11 @@ module _ (p bounds sets ranks values targets : List ℕ) (able : ℕ) (h : Prepa
 
       fits-entry : (k : ℕ) → k < rules p → bit fitting k ≡ fits p (rule p k) r v
       fits-entry k m =
-          bit_and (get_or sets r 0) able k
+          bit_and_law (get_or sets r 0) able k
           ∙ rw (h.matched.entry r l, able-is, bit-passing (rule_admits p (value p r)) (rules p) k m, bit-passing (rule_enabled p (variable_in p v)) (rules p) k m)
 
       fits-beyond : (k : ℕ) → rules p ≤ k → bit fitting k ≡ false
-      fits-beyond k m = bit_and (get_or sets r 0) able k ∙ go (bit (get_or sets r 0) k) (bit able k) refl
+      fits-beyond k m = bit_and_law (get_or sets r 0) able k ∙ go (bit (get_or sets r 0) k) (bit able k) refl
         where
           go : (a b : Bool) → bit able k ≡ b → (a && b) ≡ false
           go false b e = refl

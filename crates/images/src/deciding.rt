@@ -7,7 +7,7 @@ use rules::sets;
 use situation::Situation;
 
 // The greatest level of some rules that fit, 0 if there are none, and where those of that level lead, accepting and rejecting.
-#[derive(Drop)]
+#[derive(Clone, Copy)]
 pub struct Choice {
     pub best: usize,
     pub accepted: Situation,

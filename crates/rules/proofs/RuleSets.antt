@@ -24,8 +24,8 @@ use Rattle.rules.specs.RuleSets.{with_passing, passing}
 both_of_two : (x y : ℕ) → x < 2 → y < 2 → eqb (min x y) 1 ≡ (eqb x 1 && eqb y 1)
 both_of_two = two-digit-cases (λ x y. eqb (min x y) 1 ≡ (eqb x 1 && eqb y 1)) refl refl refl refl
 
-pub bit_and : (a b u : ℕ) → bit (bit_and a b) u ≡ (bit a u && bit b u)
-bit_and a b u =
+pub bit_and_law : (a b u : ℕ) → bit (bit_and a b) u ≡ (bit a u && bit b u)
+bit_and_law a b u =
     let last : bit_and (a / 2 ^ u) (b / 2 ^ u) % 2 ≡ min (a / 2 ^ u % 2) (b / 2 ^ u % 2) = omega (arith, and_step (a / 2 ^ u) (b / 2 ^ u)) in
     ap (λ (x : ℕ). eqb (x % 2) 1) (and_shr a b u) ∙ ap (λ (x : ℕ). eqb x 1) last ∙ both_of_two (a / 2 ^ u % 2) (b / 2 ^ u % 2) (omega arith) (omega arith)
 

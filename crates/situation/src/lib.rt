@@ -4,7 +4,7 @@ ghost use Rattle.definitions.specs.Bytes.{bit};
 ghost use Rattle.definitions.specs.Situation.{empty_set, insert, union, is_empty};
 
 // Bit v of the set says that valuation v is in it. The empty set is no situation: it stands for a step that is not possible.
-#[derive(Drop)]
+#[derive(Clone, Copy)]
 pub struct Situation {
     pub set: u64,
 }

@@ -7,7 +7,7 @@ use bookcheck::refusal;
 use findings::{Findings, find_all};
 
 // What a verdict returns: the number of the row that refuses the call, or the findings.
-#[derive(Drop)]
+#[derive(Clone, Copy)]
 pub enum Judged {
     Refused(usize),
     Given(Findings),

@@ -11,7 +11,7 @@ use book::{Telling, entry, requests, states, telling_at, width};
 use bookcheck::refusal;
 
 // What is told of a request: the number of the row that refuses the call, or what is possible.
-#[derive(Drop)]
+#[derive(Clone, Copy)]
 pub enum Told {
     Refused(usize),
     None,
@@ -21,7 +21,7 @@ pub enum Told {
 }
 
 // A refusal's number, 0 for none, and the state afterwards.
-#[derive(Drop)]
+#[derive(Clone, Copy)]
 pub struct Stepped {
     pub number: usize,
     pub state: usize,

@@ -1,0 +1,14 @@
+use mathlib.Core.Path.{◌≡◌, refl}
+use Prim.Native.Nat.{◌+◌, ◌-◌}
+use native.Mathlib.Omega.{arith}
+use lib.ListN.{length}
+use Rattle.findings.specs.Marks.{count_marks, Marks, FixedPoint}
+use Rattle.findings.proofs.MarkRounds.{count-few}
+use borrow.Author.Rules.{rules}
+use Rattle.findings.proofs.marks.mark.Given as goal
+
+abbrev pub invariant-loop-gained : goal.invariant-loop-gained
+invariant-loop-gained l = Marks l.book l.marks × (l.gained ≡ 0 → FixedPoint l.book l.marks) × (length l.marks ≡ length l.initial.marks)
+
+abbrev pub decreases-loop-gained : goal.decreases-loop-gained
+decreases-loop-gained l = 128 - count_marks l.marks + l.gained

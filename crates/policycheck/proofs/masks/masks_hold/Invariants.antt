@@ -1,0 +1,14 @@
+use mathlib.Core.Path.{◌≡◌, ap, ◌∙◌}
+use Prim.Native.Nat.{◌≤◌, ◌-◌}
+use native.Mathlib.Omega.{arith}
+use Rattle.automaton.specs.Below.{all_below}
+use Rattle.automaton.proofs.Loops.{all-next}
+use Rattle.definitions.specs.Policy.{rules}
+use Rattle.definitions.specs.Refusal.{rule_passes, rule_masks_hold}
+use Rattle.policycheck.proofs.masks.masks_hold.Given as goal
+
+abbrev pub invariant-loop-k : goal.invariant-loop-k
+invariant-loop-k l = (l.k ≤ l.n) × (l.pass ≡ all_below l.k (rule_passes l.policy (rule_masks_hold l.policy)))
+
+abbrev pub decreases-loop-k : goal.decreases-loop-k
+decreases-loop-k l = l.n - l.k

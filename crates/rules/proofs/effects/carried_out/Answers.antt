@@ -1,0 +1,97 @@
+-- `rules::effects::carried_out` meets its contract. The loop's invariant: `sum` has the changed variables from j on.
+use mathlib.Core.Path.{◌≡◌, ap, ap₂, ◌∙◌}
+use Prim.Native.Nat.{ℕ, ◌≤◌, ◌<◌, ◌-◌, ◌+◌, ◌*◌}
+use native.Mathlib.Omega.{arith}
+use mathlib.Core.List.{List}
+use lib.ListN.{length, get_or}
+use borrow.Author.Rules.{rules}
+use Rattle.definitions.specs.Policy.{variables}
+use Rattle.definitions.specs.Valuation.{bound, with_variable, changed}
+use Rattle.automaton.specs.Below.{fold_below}
+use Rattle.policy.proofs.ValuationSums.{bound_small, Summed, summed-none, summed-more, summed-all, valuation-low, summed-low}
+use Rattle.rules.specs.Arrays.{entry_of}
+use Rattle.rules.specs.Changes.{change_at, changed_by}
+use Rattle.rules.proofs.Changes.{changed-within}
+use Rattle.rules.proofs.effects.carried_out.Goals.{After-changed-digit, In-loop-j}
+use Rattle.rules.proofs.effects.carried_out.Goals as goal
+
+-- the changed values, which stay within their bounds
+abbrev changes : List ℕ → List ℕ → ℕ → ℕ → List ℕ → ℕ → ℕ
+changes policy part first step values = changed_by policy (change_at part first step) (entry_of values)
+
+bound-is : (c : In-loop-j)
+    → get_or c.args.bounds.now (c.loop-j.j - 1) 0 ≡ bound c.args.policy.now (c.loop-j.j - 1)
+bound-is c = c.requires.1.entry (c.loop-j.j - 1) (omega arith)
+
+within : (c : In-loop-j)
+    → c.args.first + c.args.step * (c.loop-j.j - 1) < length c.args.part.now
+within c = c.requires.3 (c.loop-j.j - 1) (omega arith)
+
+-- the number after the turn
+next : (c : After-changed-digit)
+    → let a = c.args in
+    let loop = c.loop-j in
+    Summed a.policy.now (changes a.policy.now a.part.now a.first a.step a.values.now) (loop.j - 1)
+    (loop.sum * (get_or a.bounds.now (loop.j - 1) 0 + 1) + c.changed-digit.result)
+next c =
+    let a = c.args in
+    let loop = c.loop-j in
+    let most = get_or a.bounds.now (loop.j - 1) 0 in
+    let is = c.requires.1.entry (loop.j - 1) (omega arith) in
+    summed-more a.policy.now (changes a.policy.now a.part.now a.first a.step a.values.now) loop.j loop.sum most c.changed-digit.result (omega arith)
+    loop.invariant.1 is (c.changed-digit.ensures.0 ∙ ap₂ (λ (n b : ℕ). changed n b (entry_of a.values.now (loop.j - 1))) c.wide-change.ensures.0 is)
+
+fits : (c : After-changed-digit)
+    → let a = c.args in
+    let loop = c.loop-j in
+    Summed a.policy.now (changes a.policy.now a.part.now a.first a.step a.values.now) (loop.j - 1)
+    (loop.sum * (get_or a.bounds.now (loop.j - 1) 0 + 1) + c.changed-digit.result)
+    → loop.sum * (get_or a.bounds.now (loop.j - 1) 0 + 1) + c.changed-digit.result < 64
+fits c =
+    let a = c.args in
+    let loop = c.loop-j in
+    summed-low a.policy.now (changes a.policy.now a.part.now a.first a.step a.values.now) c.requires.0.few_valuations
+    (changed-within a.policy.now (change_at a.part.now a.first a.step) (entry_of a.values.now) c.requires.2.most) (loop.j - 1)
+    (loop.sum * (get_or a.bounds.now (loop.j - 1) 0 + 1) + c.changed-digit.result)
+
+pub loop-j-init : goal.loop-j-init
+loop-j-init c =
+    let a = c.args in
+    let p = a.policy.now in
+    let new = changes p a.part.now a.first a.step a.values.now in
+    (omega arith, summed-none p new c.variables-j.result (ap (λ (n : ℕ). fold_below n 0 (with_variable p new)) c.variables-j.ensures.0))
+
+pub overflow_mul-step : goal.overflow_mul-step
+overflow_mul-step c = omega (arith, within (goal.at.overflow_mul-step c).In-loop-j)
+
+pub overflow_add-first : goal.overflow_add-first
+overflow_add-first c = omega (arith, within (goal.at.overflow_add-first c).In-loop-j)
+
+pub bounds-part-first : goal.bounds-part-first
+bounds-part-first c = within (goal.at.bounds-part-first c).In-loop-j
+
+pub changed-digit-requires : goal.changed-digit-requires
+changed-digit-requires c =
+    rw (bound-is (goal.at.changed-digit-requires c).In-loop-j) (c.requires.2.most (c.loop-j.j - 1) (omega arith))
+
+pub overflow_add-sum : goal.overflow_add-sum
+overflow_add-sum c =
+    let small = bound_small c.args.policy.now c.requires.0.few_valuations (c.loop-j.j - 1) (omega arith) in omega (arith, bound-is (goal.at.overflow_add-sum c).In-loop-j)
+
+pub overflow_mul-sum : goal.overflow_mul-sum
+overflow_mul-sum c = omega (arith, fits c (next c))
+
+pub overflow_add-sum-in-loop-j : goal.overflow_add-sum-in-loop-j
+overflow_add-sum-in-loop-j c = omega (arith, fits c (next c))
+
+pub loop-j-preserved : goal.loop-j-preserved
+loop-j-preserved c = (omega arith, next c)
+
+pub returns : goal.returns
+returns c =
+    let a = c.args in
+    let loop = c.loop-j in
+    let new = changes a.policy.now a.part.now a.first a.step a.values.now in
+    let e = summed-all a.policy.now new loop.j loop.sum (omega (arith, c.loop-j-test.false)) loop.invariant.1 in
+    (e, rw e (valuation-low a.policy.now new c.requires.0.few_valuations
+    (changed-within a.policy.now (change_at a.part.now a.first a.step) (entry_of a.values.now) c.requires.2.most)))

@@ -1,0 +1,12 @@
+use native.Mathlib.Omega.{arith}
+use Prim.Native.Nat.{◌≤◌, ◌-◌}
+use borrow.Author.Rules.{rules}
+use Rattle.policy.proofs.PassedFile.{count_in_range_law}
+use Rattle.rules.proofs.Values.{Taken, taken_begun, taken_turn, taken_done}
+use Rattle.rules.proofs.matching.fill_values.Given as goal
+
+abbrev pub invariant-loop-f : goal.invariant-loop-f
+invariant-loop-f l = Taken l.policy l.r l.initial.values l.values l.rest l.f
+
+abbrev pub decreases-loop-f : goal.decreases-loop-f
+decreases-loop-f l = l.f

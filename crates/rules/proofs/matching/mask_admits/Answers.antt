@@ -1,0 +1,6 @@
+-- `rules::matching::mask_admits` meets its contract.
+use borrow.Author.Rules.{rules}
+use Rattle.rules.proofs.matching.mask_admits.Goals as goal
+
+pub returns : goal.returns
+returns c = rw c.mask.ensures.0
