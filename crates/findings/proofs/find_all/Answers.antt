@@ -4,36 +4,28 @@ use native.Mathlib.Omega.{arith}
 use Rattle.definitions.specs.Checked.{BookPassed}
 use Rattle.findings.proofs.FindingsAre.{not_found, findings-are, histories-are}
 use borrow.Author.Rules.{rules}
-use Rattle.findings.proofs.find_all.Goals.{After-explore_book-n, Start}
 use Rattle.findings.proofs.find_all.Goals as goal
 
-pass : (c : Start) → BookPassed c.args.book.now
-pass c = c.requires.0
-
--- from the search back to the start
-abbrev start : After-explore_book-n → Start
-start c = c.before.before.before.before.before.before.before.before.before.before
-
 pub requests-q-requires : goal.requests-q-requires
-requests-q-requires c = let p = pass (goal.at.requests-q-requires c).Start in (p.long, p.layout.header.fields_most)
+requests-q-requires c = let p = c.requires.0 in (p.long, p.layout.header.fields_most)
 
 pub width_from-w-requires : goal.width_from-w-requires
-width_from-w-requires c = let p = pass (goal.at.width_from-w-requires c).Start in (p.long, p.layout.header, c.requests-q.ensures)
+width_from-w-requires c = let p = c.requires.0 in (p.long, p.layout.header, c.requests-q.ensures)
 
 pub explore_book-n-requires : goal.explore_book-n-requires
 explore_book-n-requires c =
-    let p = pass (goal.at.explore_book-n-requires c).Start in
+    let p = c.requires.0 in
     (p, c.width_from-w.ensures, record { enough = omega (arith, p.layout.header.states_most); few = search rules; room_order = search rules; room_trail = search rules; empty = refl })
 
 pub find-first-requires : goal.find-first-requires
-find-first-requires c = record { book_passed = (pass (start c), c.requests-q.ensures, c.explore_book-n.ensures.holds); book_in_bounds = (omega (arith, (pass (start c)).layout.header.states_most), omega (arith, (pass (start c)).layout.header.states_most), (start c).requires.1); }
+find-first-requires c = record { book_passed = (c.requires.0, c.requests-q.ensures, c.explore_book-n.ensures.holds); book_in_bounds = (omega (arith, c.requires.0.layout.header.states_most), omega (arith, c.requires.0.layout.header.states_most), c.requires.1); }
 
 pub find-second-requires : goal.find-second-requires
-find-second-requires c = record { book_passed = (pass (start c), c.requests-q.ensures, c.explore_book-n.ensures.holds); book_in_bounds = (omega (arith, (pass (start c)).layout.header.states_most), omega (arith, (pass (start c)).layout.header.states_most), (start c).requires.2); }
+find-second-requires c = record { book_passed = (c.requires.0, c.requests-q.ensures, c.explore_book-n.ensures.holds); book_in_bounds = (omega (arith, c.requires.0.layout.header.states_most), omega (arith, c.requires.0.layout.header.states_most), c.requires.2); }
 
 pub find_blocked-third-requires : goal.find_blocked-third-requires
 find_blocked-third-requires c =
-    let f = c.find-second in record { book_passed = (pass (start c), c.requests-q.ensures, c.explore_book-n.ensures.holds); book_value = not_found f.result f.new.1.1.1.1.1.1.0 _ f.ensures.buffer_after; book_in_bounds = (omega (arith, (pass (start c)).layout.header.states_most), omega (arith, (pass (start c)).layout.header.states_most), (start c).requires.3); }
+    let f = c.find-second in record { book_passed = (c.requires.0, c.requests-q.ensures, c.explore_book-n.ensures.holds); book_value = not_found f.result f.new.buffer _ f.ensures.buffer_after; book_in_bounds = (omega (arith, c.requires.0.layout.header.states_most), omega (arith, c.requires.0.layout.header.states_most), c.requires.3); }
 
 pub returns : goal.returns
 returns c =

@@ -9,7 +9,7 @@ use Rattle.findings.proofs.finding.find_blocked.Goals as goal
 
 pub returns-then-not-is_found : goal.returns-then-not-is_found
 returns-then-not-is_found c =
-    let all = tells-answered _ c.requires.book_passed.0 c.requires.book_passed.2 (c.requires.book_value (sym c.is_found.ensures ∙ not-true _ c.if-not-is_found.true)) c.args.buffer.now in
+    let all = tells-answered _ c.requires.book_passed.0 c.requires.book_passed.2 (c.requires.book_value (sym c.is_found.ensures ∙ c.if-not-is_found.true)) c.args.buffer.now in
     record { buffer_after = all.0; buffer_after_2 = all.1; }
 
 pub first_unmarked-i-requires : goal.first_unmarked-i-requires

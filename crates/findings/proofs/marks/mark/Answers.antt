@@ -20,7 +20,7 @@ mark_round-gained-requires c = (c.requires.0, c.width_from-w.ensures, c.loop-gai
 pub loop-gained-smaller : goal.loop-gained-smaller
 loop-gained-smaller c =
     let e = c.mark_round-gained.ensures.marks.1 in
-    let few = count-few c.mark_round-gained.new.1.1.0 in
+    let few = count-few c.mark_round-gained.new.marks in
     omega (arith, e, few, c.loop-gained-test.true)
 
 pub loop-gained-preserved : goal.loop-gained-preserved

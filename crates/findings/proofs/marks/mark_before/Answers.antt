@@ -19,7 +19,7 @@ returns-then-marks-state-ne0 c = let a = c.args in
 
 pub returns-then-not-has_marked_successor : goal.returns-then-not-has_marked_successor
 returns-then-not-has_marked_successor c = let a = c.args in
-    let all = gain_none a.book.now a.marks.now a.state (sym c.has_marked_successor.ensures ∙ not-true _ c.if-not-has_marked_successor.true) in
+    let all = gain_none a.book.now a.marks.now a.state (sym c.has_marked_successor.ensures ∙ c.if-not-has_marked_successor.true) in
     record { value = all.0; marks_after = all.1; }
 
 pub bounds-marks-state-2 : goal.bounds-marks-state-2
@@ -27,5 +27,5 @@ bounds-marks-state-2 c = omega (arith, c.requires.book_passed.2, c.requires.le_s
 
 pub returns : goal.returns
 returns c = let a = c.args in
-    let all = gain_new a.book.now a.marks.now a.state (ap is_state c.if-marks-state-ne0.false) (sym c.has_marked_successor.ensures ∙ not-false _ c.if-not-has_marked_successor.false) in
+    let all = gain_new a.book.now a.marks.now a.state (ap is_state c.if-marks-state-ne0.false) (sym c.has_marked_successor.ensures ∙ c.if-not-has_marked_successor.false) in
     record { value = all.0; marks_after = all.1; }

@@ -11,7 +11,7 @@ use Rattle.findings.proofs.marks.mark_round.Goals as goal
 -- what holds once state s has been looked at
 turned : (c : After-slice_known-in-loop-s-1)
     → Round c.args.book.now c.args.marks.now
-    c.mark_before-gained.new.1.1.0 (c.loop-s.gained + c.mark_before-gained.result) (c.loop-s.s + 1)
+    c.mark_before-gained.new.marks (c.loop-s.gained + c.mark_before-gained.result) (c.loop-s.s + 1)
 turned c =
     let at-loop-test = c in
     let at_pre = at-loop-test in

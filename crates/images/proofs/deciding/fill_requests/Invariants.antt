@@ -1,0 +1,16 @@
+use mathlib.Core.Path.{◌≡◌}
+use Prim.Native.Nat.{◌≤◌, ◌-◌, ◌*◌}
+use native.Mathlib.Omega.{arith}
+use lib.ListN.{length, get_or, length-set}
+use borrow.Author.Rules.{rules}
+use Rattle.automaton.proofs.FilledList.{FilledUpTo, filled_begun}
+use Rattle.rules.proofs.Arrays.{filled_tabled}
+use Rattle.images.specs.Choice.{chosen_for}
+use Rattle.images.proofs.Choices.{listed_both, decided_turn}
+use Rattle.images.proofs.deciding.fill_requests.Given as goal
+
+abbrev pub invariant-loop-r : goal.invariant-loop-r
+invariant-loop-r l = (l.r ≤ length l.sets) × FilledUpTo (chosen_for l.sets l.enabled l.ranks l.targets) l.initial.row (2 * l.r) l.row
+
+abbrev pub decreases-loop-r : goal.decreases-loop-r
+decreases-loop-r l = length l.sets - l.r

@@ -1,0 +1,15 @@
+use Prim.Native.Nat.{◌≤◌, ◌-◌}
+use native.Mathlib.Omega.{arith}
+use Rattle.automaton.proofs.FilledList.{FilledUpTo, filled_begun, filled_turn}
+use Rattle.definitions.specs.Policy.{rules}
+use Rattle.rules.specs.Arrays.{entry_of}
+use Rattle.rules.proofs.Arrays.{filled_tabled}
+use Rattle.images.specs.Images.{rule_target}
+use Rattle.images.proofs.Targets.{rule-changes, rule_target_law}
+use Rattle.images.proofs.fill_targets.Given as goal
+
+abbrev pub invariant-loop-k : goal.invariant-loop-k
+invariant-loop-k l = (l.k ≤ l.n) × FilledUpTo (rule_target l.policy (entry_of l.values)) l.initial.targets l.k l.targets
+
+abbrev pub decreases-loop-k : goal.decreases-loop-k
+decreases-loop-k l = l.n - l.k
