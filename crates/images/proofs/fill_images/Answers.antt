@@ -8,19 +8,14 @@ use Rattle.policy.specs.declared.shape.Shape.{Shape}
 use Rattle.rules.specs.RuleSets.{matching}
 use Rattle.rules.proofs.Arrays.{tabled-take}
 use Rattle.images.proofs.ImageRows.{images_are}
-use Rattle.images.proofs.fill_images.Goals.{Start}
 use Rattle.images.proofs.fill_images.Goals as goal
 
-requests-are : (c : Start) → c.args.shape.requests ≡ requests c.args.policy.now
-requests-are c = ap (λ (s : Shape). s.requests) c.requires.1
-
 pub slice_bounds-sets-end : goal.slice_bounds-sets-end
-slice_bounds-sets-end c = omega (arith, requests-are (goal.at.slice_bounds-sets-end c).Start, c.fill_matching.ensures.room)
+slice_bounds-sets-end c = omega (arith, ap (λ (s : Shape). s.requests) c.requires.1, c.fill_matching.ensures.room)
 
 pub slice_bounds-fill_rows-end-2 : goal.slice_bounds-fill_rows-end-2
 slice_bounds-fill_rows-end-2 c =
-    let at_before = c in
-    sym (length-take-le _ _ (omega (arith, requests-are at_before, c.fill_matching.ensures.room)))
+    sym (length-take-le _ _ (omega (arith, ap (λ (s : Shape). s.requests) c.requires.1, c.fill_matching.ensures.room)))
 
 pub fill_rows-requires : goal.fill_rows-requires
 fill_rows-requires c =
@@ -28,7 +23,7 @@ fill_rows-requires c =
     let bounds = c.fill_bounds in
     let sets = c.fill_matching in
     let q = c.args.shape.requests in
-    let are = requests-are (goal.at.fill_rows-requires c).Start in (
+    let are : q ≡ requests p = ap (λ (s : Shape). s.requests) c.requires.1 in (
       c.requires.1,
       record {
         passed = c.requires.0;

@@ -15,7 +15,7 @@ fill_events-requires c =
 pub fill_decided-requires : goal.fill_decided-requires
 fill_decided-requires c =
     let values = c.fill_variables in
-    let kept = c.fill_events.auto.1.1.1.1.0 in
+    let kept = c.fill_events.auto.row in
     (c.requires.0, valued c.args.policy.now c.args.v _ values.ensures, rw (part_is-drop, length-drop) (omega (arith, kept, c.requires.1, c.events-first.ensures.0)), c.requires.2)
 
 pub returns : goal.returns
@@ -25,4 +25,4 @@ returns c =
     let first = c.events-first in
     let decided = c.fill_decided in
     row_imaged c.args.policy.now values.new.values c.args.v first.result row.new.row decided.new.row values.ensures first.ensures.0
-    (omega (arith, row.auto.1.1.1.1.0, c.requires.1)) row.ensures decided.auto.1.1.1.1.1.1.0 decided.ensures
+    (omega (arith, row.auto.row, c.requires.1)) row.ensures decided.auto.row decided.ensures

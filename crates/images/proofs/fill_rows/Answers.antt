@@ -14,25 +14,17 @@ use Rattle.rules.specs.Arrays.{Tabled}
 use Rattle.rules.proofs.Arrays.{tabled-none}
 use Rattle.images.specs.Images.{image_entry}
 use Rattle.images.proofs.ImageRows.{rows_more}
-use Rattle.images.proofs.fill_rows.Goals.{In-loop-v, Start}
+use Rattle.images.proofs.fill_rows.Goals.{In-loop-v}
 use Rattle.images.proofs.fill_rows.Goals as goal
 
-width_is : (c : Start) → c.args.shape.width ≡ width c.args.policy.now
-width_is c = ap (λ (s : Shape). s.width) c.requires.0
-
-valuations-are : (c : Start) → c.args.shape.valuations ≡ valuations c.args.policy.now
-valuations-are c = ap (λ (s : Shape). s.valuations) c.requires.0
-
-all_fit : (c : Start) → c.args.shape.valuations * c.args.shape.width ≤ length c.args.images.now
-all_fit c = rw (valuations-are c, width_is c) c.requires.2
-
-within : (c : In-loop-v)
-    → let start = c in
-    c.loop-v.v * start.args.shape.width + start.args.shape.width ≤ length c.loop-v.images
+within : (c : In-loop-v) → c.loop-v.v * c.args.shape.width + c.args.shape.width ≤ length c.loop-v.images
 within c =
-    let start = c in
-    let h = row_within c.loop-v.v start.args.shape.valuations start.args.shape.width c.loop-v-test.true in
-    omega (arith, all_fit start, c.loop-v.invariant.1)
+    let s = c.args.shape in
+    let width_is : s.width ≡ width c.args.policy.now = ap (λ (x : Shape). x.width) c.requires.0 in
+    let valuations-are : s.valuations ≡ valuations c.args.policy.now = ap (λ (x : Shape). x.valuations) c.requires.0 in
+    let all_fit : s.valuations * s.width ≤ length c.args.images.now = rw (valuations-are, width_is) c.requires.2 in
+    let h = row_within c.loop-v.v s.valuations s.width c.loop-v-test.true in
+    omega (arith, all_fit, c.loop-v.invariant.1)
 
 pub loop-v-init : goal.loop-v-init
 loop-v-init c =
@@ -53,7 +45,7 @@ slice_bounds-fill_row-start c = omega (arith, within c)
 
 pub fill_row-requires : goal.fill_row-requires
 fill_row-requires c =
-    (c.requires.1, rw (part_is-drop, length-drop) (omega (arith, within (goal.at.fill_row-requires c).In-loop-v, width_is (goal.at.fill_row-requires c).Start)), c.requires.3)
+    (c.requires.1, rw (part_is-drop, length-drop) (omega (arith, within (goal.at.fill_row-requires c).In-loop-v, ap (λ (x : Shape). x.width) c.requires.0)), c.requires.3)
 
 pub loop-v-preserved : goal.loop-v-preserved
 loop-v-preserved c =
@@ -61,8 +53,8 @@ loop-v-preserved c =
     let row = c.fill_row in
     let w = c.args.shape.width in (
       omega arith,
-      same_len_mid (loop.v * w) (length loop.images - loop.v * w) loop.images row.new.row row.auto.1.1.1.1.1.1.0 ∙ loop.invariant.1,
-      rows_more c.args.policy.now w loop.v loop.images _ (width_is (goal.at.loop-v-preserved c).Start) (within (goal.at.loop-v-preserved c).In-loop-v) loop.invariant.2 row.auto.1.1.1.1.1.1.0 row.ensures,
+      same_len_mid (loop.v * w) (length loop.images - loop.v * w) loop.images row.new.row row.auto.row ∙ loop.invariant.1,
+      rows_more c.args.policy.now w loop.v loop.images _ (ap (λ (x : Shape). x.width) c.requires.0) (within (goal.at.loop-v-preserved c).In-loop-v) loop.invariant.2 row.auto.row row.ensures,
     )
 
 pub shape_of-images : goal.shape_of-images
@@ -71,4 +63,4 @@ shape_of-images c = c.loop-v.invariant.1
 pub returns : goal.returns
 returns c =
     let e : c.loop-v.v ≡ c.args.shape.valuations = omega arith in
-    rw (← (valuations-are (goal.at.returns c).Start), ← (width_is (goal.at.returns c).Start), ← e) c.loop-v.invariant.2
+    rw (← (ap (λ (x : Shape). x.valuations) c.requires.0), ← (ap (λ (x : Shape). x.width) c.requires.0), ← e) c.loop-v.invariant.2
