@@ -1,12 +1,11 @@
 -- Round after round, until one changes nothing: each round before divides a class, and then the classes are those of alike states.
 use mathlib.Core.Path.{◌≡◌, refl, sym, ap, ◌∙◌}
-use mathlib.Core.List.{List, [], ◌∷◌, ◌++◌, map, append-nil}
-use Prim.Native.Nat.{ℕ, zero, suc, ◌-◌, ◌<◌, ◌≤◌}
+use mathlib.Core.List.{List, [], ◌∷◌, map}
+use Prim.Native.Nat.{ℕ, suc, ◌-◌, ◌<◌, ◌≤◌}
 use native.Mathlib.Omega.{arith}
 use native.Mathlib.Decide.{dec_lt}
 use lib.Dec.{eqb}
-use lib.ListN.{length, get_or, take, drop, replicate, length-replicate, get_or-replicate, drop_of_length-le}
-use lib.Seq.{take_all}
+use lib.ListN.{length, drop, replicate}
 use Rattle.automaton.specs.Join.{refine, together, classes_after, classes}
 use Rattle.automaton.specs.Below.{count_below}
 use Rattle.automaton.proofs.Below.{count-below_le}
@@ -57,7 +56,7 @@ module _ {raw : List ℕ} {w : ℕ} {array : List ℕ} (now : InRounds raw w arr
       few = omega (arith, long, now.few);
       table = rw long now.table;
       rounds = suc now.rounds;
-      are = rw long (e ∙ next-is now);
+      are = e ∙ next-is now ∙ ap (λ (k : ℕ). 0 ∷ classes_after (rows_in raw (k - 1) w) (suc now.rounds)) (sym long);
     }
 
     rows_same : rows_with raw w next ≡ rows
@@ -87,9 +86,3 @@ module _ {raw : List ℕ} {w : ℕ} {array : List ℕ} (now : InRounds raw w arr
         ap (λ (l : List ℕ). drop 1 l) (sym (e ∙ next-is now) ∙ sym equal ∙ now.are) in
         let last : array ≡ last_round raw w array = now.are ∙ ap (λ (l : List ℕ). 0 ∷ l) (sym (classes_settled w rows (is_table_law now) now.rounds still)) in
         sym equal ∙ last ∙ ap (λ (k : ℕ). 0 ∷ classes (rows_in raw (k - 1) w)) same_length
-
--- a whole list is copied
-pub copied : (from to : List ℕ) → length from ≡ length to → take (length from) from ++ drop (length from) to ≡ from
-copied from to e =
-    ap (λ (l : List ℕ). l ++ drop (length from) to) (take_all (length from) from (omega arith))
-    ∙ ap (λ (l : List ℕ). from ++ l) (drop_of_length-le to {i = length from} (omega arith)) ∙ append-nil from

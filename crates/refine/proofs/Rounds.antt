@@ -1,16 +1,15 @@
 -- One round of refinement, with the classes in arrays: the first states of new classes inside a state's present class are all that need comparing.
 use mathlib.Core.Path.{◌≡◌, refl, sym, ap, ◌∙◌}
-use mathlib.Core.Bool.{Bool, true, false, true≢false}
+use mathlib.Core.Bool.{true, false, true≢false}
 use mathlib.Core.List.{List, [], ◌∷◌, map}
 use Prim.Native.Nat.{ℕ, zero, suc, ◌+◌, ◌-◌, ◌*◌, ◌<◌, ◌≤◌}
 use native.Mathlib.Omega.{arith}
 use native.Mathlib.Decide.{dec_lt}
-use lib.Dec.{eqb}
 use lib.ListN.{length, get_or, take, drop, length-map}
 use lib.Seq.{length-take-le, get_or-take, ext_get_or}
 use borrow.Author.Tests.{eq-eqb}
 use Rattle.automaton.specs.Below.{same_list}
-use Rattle.automaton.specs.Join.{class_of, class_rows, first_like, refine, classes_after, classes}
+use Rattle.automaton.specs.Join.{class_of, class_rows, first_like, refine, classes_after}
 use Rattle.automaton.proofs.Below.{and-true, same-list-refl, same-list-true, same-list-yes, same-list_no, place-hit}
 use Rattle.automaton.proofs.WellFormed.{IsTable, get_or-map-within}
 use Rattle.automaton.proofs.AlikeWithin.{NamedByFirst, class_positive, classes-after-named, classes_after_law}

@@ -1,5 +1,7 @@
 // The classes of a table's alike states, by rounds of refinement (Moore's algorithm). An array has class 0 of "not possible" first, then the class of each state; a class has
 // the number of its first state.
+#![tactic(auto)]
+
 mod words;
 
 ghost use Rattle.std.specs.Prelude.{◌≡◌, ◌-◌, ◌*◌, ◌<◌, ◌≤◌, length, take};

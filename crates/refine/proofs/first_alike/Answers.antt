@@ -1,11 +1,7 @@
 -- `first_alike` meets its contract: the states passed so far are before the class.
 use Rattle.refine.proofs.Rounds.{search-begins, search-ends, search-found, search-passed}
-use Rattle.refine.specs.Rounds.{next_round}
-use Rattle.definitions.specs.Bytes.{byte}
 use native.Mathlib.Omega.{arith}
-use Prim.Native.Nat.{◌-◌, ◌≤◌}
 use mathlib.Core.Path.{sym, ◌∙◌}
-use borrow.Author.Rules.{rules}
 use Rattle.refine.proofs.first_alike.Goals as goal
 
 pub loop-t-init : goal.loop-t-init
@@ -13,7 +9,7 @@ loop-t-init c =
     rw c.wide-t.ensures.0 (search-begins c.requires.in_rounds c.args.s c.requires.le_s.0 c.requires.le_s.1)
 
 pub is_first_alike-requires : goal.is_first_alike-requires
-is_first_alike-requires c = record { in_rounds = c.requires.in_rounds; le_t = (c.loop-t.invariant.0, c.loop-t-test.true, c.requires.le_s.1, c.requires.le_s.2); }
+is_first_alike-requires c = record { in_rounds = c.requires.in_rounds; le_t = (c.loop-t.invariant.0, c.loop-t-test.true, c.requires.le_s.1, c.requires.le_s.2) }
 
 pub returns-then-is_first_alike : goal.returns-then-is_first_alike
 returns-then-is_first_alike c =

@@ -1,10 +1,6 @@
-use Rattle.refine.proofs.Rounds.{search-begins, search-ends, search-found, search-passed}
 use Rattle.refine.specs.Rounds.{next_round}
 use Rattle.definitions.specs.Bytes.{byte}
-use native.Mathlib.Omega.{arith}
 use Prim.Native.Nat.{◌-◌, ◌≤◌}
-use mathlib.Core.Path.{sym, ◌∙◌}
-use borrow.Author.Rules.{rules}
 use Rattle.refine.proofs.first_alike.Given as goal
 
 abbrev pub invariant-loop-t : goal.invariant-loop-t

@@ -1,6 +1,5 @@
 -- `is_first` meets its contract.
 use borrow.Author.Tests.{eq-eqb, ne_eqb}
-use borrow.Author.Rules.{rules}
 use Rattle.refine.proofs.is_first.Goals as goal
 
 pub returns-then-classes-t : goal.returns-then-classes-t

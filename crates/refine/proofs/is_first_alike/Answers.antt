@@ -5,7 +5,6 @@ use lib.ListN.{length, length-drop}
 use native.Mathlib.Omega.{arith}
 use Prim.Native.Nat.{◌-◌, ◌+◌, ◌*◌, ◌<◌, ◌≤◌}
 use mathlib.Core.Path.{sym, ◌∙◌}
-use borrow.Author.Rules.{rules}
 use Rattle.refine.proofs.is_first_alike.Goals.{Start}
 use Rattle.refine.proofs.is_first_alike.Goals as goal
 
@@ -42,10 +41,13 @@ same_classes-requires c =
     let pt : 1 ≤ a.t = c.requires.le_t.0 in
     let some : length a.classes.now - 1 < length a.classes.now = omega (arith, c.requires.le_t.2) in
     let ps : 1 ≤ a.s = omega (arith, c.requires.le_t.1) in
-    simp part_is-drop (
-      (rw length-drop (omega arith), rw length-drop (omega arith)),
-      (state-entries c.requires.in_rounds.table a.t pt (omega (arith, c.requires.le_t.1, c.requires.le_t.2)) _ some, state-entries c.requires.in_rounds.table a.s ps (omega (arith, c.requires.le_t.2)) _ some),
-    )
+    simp part_is-drop record {
+      w_in_bounds = (rw length-drop (omega arith), rw length-drop (omega arith));
+      entries_below = (
+        state-entries c.requires.in_rounds.table a.t pt (omega (arith, c.requires.le_t.1, c.requires.le_t.2)) _ some,
+        state-entries c.requires.in_rounds.table a.s ps (omega (arith, c.requires.le_t.2)) _ some,
+      );
+    }
 
 pub returns-then-is_first : goal.returns-then-is_first
 returns-then-is_first c = rw (sym c.is_first.ensures ∙ c.if-is_first.true) (simp part_is-drop at c.same_classes.ensures)

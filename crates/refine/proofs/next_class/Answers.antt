@@ -4,7 +4,6 @@ use Prim.Native.Nat.{◌≤◌}
 use Rattle.definitions.specs.Bytes.{byte}
 use native.Mathlib.Omega.{arith}
 use Rattle.refine.proofs.Rounds.{class-bounds}
-use borrow.Author.Rules.{rules}
 use Rattle.refine.proofs.next_class.Goals.{Start}
 use Rattle.refine.proofs.next_class.Goals as goal
 

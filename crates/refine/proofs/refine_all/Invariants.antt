@@ -1,8 +1,4 @@
-use mathlib.Core.Path.{◌≡◌, sym, ◌∙◌}
-use native.Mathlib.Omega.{arith}
-use Rattle.refine.proofs.RoundSequence.{copied}
-use Rattle.refine.proofs.Refinement.{AfterRounds, rounds_left, refining_begun, refining_turn, refining_less}
-use borrow.Author.Rules.{rules}
+use Rattle.refine.proofs.Refinement.{AfterRounds, rounds_left}
 use Rattle.refine.proofs.refine_all.Given as goal
 
 abbrev pub invariant-loop-moved : goal.invariant-loop-moved

@@ -1,8 +1,8 @@
 -- `round` meets its contract: the states passed so far have their new classes, and the word has those that moved.
 use mathlib.Core.Path.{◌≡◌, refl, sym, ap, ◌∙◌}
-use Prim.Native.Nat.{ℕ, ◌-◌, ◌≤◌}
+use Prim.Native.Nat.{ℕ}
 use native.Mathlib.Omega.{arith}
-use lib.ListN.{length, take, length-set}
+use lib.ListN.{length, length-set}
 use Rattle.automaton.specs.Below.{fold_below}
 use Rattle.automaton.proofs.Loops.{fold_more}
 use Rattle.definitions.specs.Situation.{empty_set}
@@ -10,7 +10,6 @@ use Rattle.definitions.proofs.RowsWritten.{fill_turn, fill_done}
 use Rattle.refine.specs.Rounds.{next_round}
 use Rattle.refine.specs.StateWords.{with_moved}
 use Rattle.refine.proofs.Rounds.{first_unmoved, next_length_law, class_low}
-use borrow.Author.Rules.{rules}
 use Rattle.refine.proofs.round.Goals as goal
 
 pub loop-s-init : goal.loop-s-init
@@ -49,4 +48,7 @@ pub returns : goal.returns
 returns c =
     let a = c.args in
     let l = c.loop-s in
-    let e : l.s ≡ length a.classes.now = omega (arith, c.loop-s-test.false) in record { value = l.invariant.4 ∙ ap (λ (k : ℕ). fold_below k empty_set (with_moved a.classes.now (next_round a.raw.now a.w a.classes.now))) e; next_after = (fill_done (next_round a.raw.now a.w a.classes.now) l.next l.s l.invariant.3 (omega arith) (l.invariant.2 ∙ sym (next_length_law c.requires.in_rounds.0)), ); }
+    let e : l.s ≡ length a.classes.now = omega (arith, c.loop-s-test.false) in record {
+      value = l.invariant.4 ∙ ap (λ (k : ℕ). fold_below k empty_set (with_moved a.classes.now (next_round a.raw.now a.w a.classes.now))) e;
+      next_after = fill_done (next_round a.raw.now a.w a.classes.now) l.next l.s l.invariant.3 (omega arith) (l.invariant.2 ∙ sym (next_length_law c.requires.in_rounds.0));
+    }

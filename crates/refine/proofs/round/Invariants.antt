@@ -1,15 +1,10 @@
-use mathlib.Core.Path.{◌≡◌, refl, sym, ap, ◌∙◌}
-use Prim.Native.Nat.{ℕ, ◌-◌, ◌≤◌}
-use native.Mathlib.Omega.{arith}
-use lib.ListN.{length, take, length-set}
+use mathlib.Core.Path.{◌≡◌}
+use Prim.Native.Nat.{◌-◌, ◌≤◌}
+use lib.ListN.{length, take}
 use Rattle.automaton.specs.Below.{fold_below}
-use Rattle.automaton.proofs.Loops.{fold_more}
 use Rattle.definitions.specs.Situation.{empty_set}
-use Rattle.definitions.proofs.RowsWritten.{fill_turn, fill_done}
 use Rattle.refine.specs.Rounds.{next_round}
 use Rattle.refine.specs.StateWords.{with_moved}
-use Rattle.refine.proofs.Rounds.{first_unmoved, next_length_law, class_low}
-use borrow.Author.Rules.{rules}
 use Rattle.refine.proofs.round.Given as goal
 
 abbrev pub invariant-loop-s : goal.invariant-loop-s

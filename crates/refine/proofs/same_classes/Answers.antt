@@ -3,8 +3,6 @@ use Rattle.refine.proofs.Rounds.{rows_same, rows-differ}
 use Rattle.definitions.specs.Bytes.{byte}
 use borrow.Author.Count.{below_more}
 use native.Mathlib.Omega.{arith}
-use Prim.Native.Nat.{ℕ, ◌-◌, ◌<◌, ◌≤◌}
-use mathlib.Core.Path.{◌≡◌}
 use borrow.Author.Rules.{rules}
 use Rattle.refine.proofs.same_classes.Goals as goal
 

@@ -1,14 +1,12 @@
 -- `fill_leads` meets its contract: the rows passed so far have their words.
-use mathlib.Core.Path.{◌≡◌, refl}
-use Prim.Native.Nat.{◌+◌, ◌-◌, ◌*◌, ◌≤◌}
+use mathlib.Core.Path.{refl}
+use Prim.Native.Nat.{◌+◌, ◌*◌, ◌≤◌}
 use native.Mathlib.Omega.{arith}
 use lib.ListN.{length, length-set}
 use lib.Seq.{get_or-drop}
 use Rattle.automaton.proofs.Loops.{part_is-drop, row_within}
 use Rattle.definitions.proofs.TableBytes.{row_fits}
-use Rattle.refine.specs.StateWords.{RowWords}
 use Rattle.refine.proofs.StateWords.{words_more}
-use borrow.Author.Rules.{rules}
 use Rattle.refine.proofs.words.fill_leads.Goals.{In-loop-i}
 use Rattle.refine.proofs.words.fill_leads.Goals as goal
 

@@ -1,13 +1,7 @@
-use mathlib.Core.Path.{◌≡◌, refl}
-use Prim.Native.Nat.{◌+◌, ◌-◌, ◌*◌, ◌≤◌}
-use native.Mathlib.Omega.{arith}
-use lib.ListN.{length, length-set}
-use lib.Seq.{get_or-drop}
-use Rattle.automaton.proofs.Loops.{part_is-drop, row_within}
-use Rattle.definitions.proofs.TableBytes.{row_fits}
+use mathlib.Core.Path.{◌≡◌}
+use Prim.Native.Nat.{◌-◌, ◌≤◌}
+use lib.ListN.{length}
 use Rattle.refine.specs.StateWords.{RowWords}
-use Rattle.refine.proofs.StateWords.{words_more}
-use borrow.Author.Rules.{rules}
 use Rattle.refine.proofs.words.fill_leads.Given as goal
 
 abbrev pub invariant-loop-i : goal.invariant-loop-i

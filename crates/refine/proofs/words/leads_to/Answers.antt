@@ -1,10 +1,9 @@
 -- `leads_to` meets its contract: the word has the states that the entries passed so far lead to.
 use mathlib.Core.Path.{◌≡◌, refl}
-use Prim.Native.Nat.{◌≤◌, ◌-◌}
 use native.Mathlib.Omega.{arith}
 use Rattle.automaton.proofs.Loops.{fold_more}
 use Rattle.definitions.specs.Situation.{empty_set}
-use Rattle.refine.specs.StateWords.{with_entry, leads_to}
+use Rattle.refine.specs.StateWords.{with_entry}
 use borrow.Author.Rules.{rules}
 use Rattle.refine.proofs.words.leads_to.Goals as goal
 

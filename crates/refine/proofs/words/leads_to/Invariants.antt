@@ -1,10 +1,6 @@
-use mathlib.Core.Path.{◌≡◌, refl}
+use mathlib.Core.Path.{◌≡◌}
 use Prim.Native.Nat.{◌≤◌, ◌-◌}
-use native.Mathlib.Omega.{arith}
-use Rattle.automaton.proofs.Loops.{fold_more}
-use Rattle.definitions.specs.Situation.{empty_set}
-use Rattle.refine.specs.StateWords.{with_entry, leads_to}
-use borrow.Author.Rules.{rules}
+use Rattle.refine.specs.StateWords.{leads_to}
 use Rattle.refine.proofs.words.leads_to.Given as goal
 
 abbrev pub invariant-loop-c : goal.invariant-loop-c

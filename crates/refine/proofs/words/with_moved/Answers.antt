@@ -1,6 +1,5 @@
 -- `with_moved` meets its contract: a state that has its old class is not put in.
 use borrow.Author.Tests.{eq-eqb, ne_eqb}
-use borrow.Author.Rules.{rules}
 use Rattle.refine.proofs.words.with_moved.Goals as goal
 
 pub returns-then-old-new : goal.returns-then-old-new

@@ -2,7 +2,6 @@
 use Prim.Native.Nat.{◌/◌}
 use native.Mathlib.Omega.{arith}
 use Rattle.definitions.proofs.Sets.{one_shifted}
-use borrow.Author.Rules.{rules}
 use Rattle.refine.proofs.words.with_state.Goals as goal
 
 pub returns : goal.returns
