@@ -1,0 +1,14 @@
+use mathlib.Core.Path.{◌≡◌, sym, ◌∙◌}
+use Prim.Native.Nat.{ℕ, ◌≤◌, ◌<◌, ◌-◌}
+use borrow.Author.Count.{below_more}
+use borrow.Author.Tests.{eqb-true, eqb-false}
+use lib.ListN.{get_or}
+use Rattle.explore.proofs.StatePlaces.{place_here, place-nowhere}
+use borrow.Author.Rules.{rules}
+use Rattle.explore.proofs.place.Given as goal
+
+abbrev pub invariant-loop-i : goal.invariant-loop-i
+invariant-loop-i l = (l.i ≤ l.n) × ((k : ℕ) → k < l.i → get_or l.found k 0 ≡ l.x.set → ⊥)
+
+abbrev pub decreases-loop-i : goal.decreases-loop-i
+decreases-loop-i l = l.n - l.i
