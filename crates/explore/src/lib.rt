@@ -1,4 +1,6 @@
 // Breadth-first search over the situations of a policy, by its table of images. A slice holds a situation as its word.
+#![tactic(auto)]
+
 ghost use Rattle.std.specs.Prelude.{◌≡◌, ◌+◌, ◌*◌, ◌%◌, ◌<◌, ◌≤◌, max, eqb, length, take};
 ghost use Rattle.automaton.specs.Below.{place_of};
 ghost use Rattle.definitions.specs.Answer.{written};

@@ -2,7 +2,6 @@
 use Rattle.explore.proofs.SetRows.{images-in, images-out}
 use Rattle.automaton.proofs.Loops.{part_is-drop}
 use mathlib.Core.Path.{sym, ◌∙◌}
-use borrow.Author.Rules.{rules}
 use Rattle.explore.proofs.add_images.Goals as goal
 
 pub returns-then-has : goal.returns-then-has

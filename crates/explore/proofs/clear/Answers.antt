@@ -1,10 +1,7 @@
 -- `clear` meets its contract: the sets passed so far are empty.
-use Rattle.automaton.proofs.FilledList.{FilledUpTo, filled_begun, filled_turn, filled_done}
-use Rattle.explore.specs.SetImages.{no_set}
-use lib.ListN.{length, length-set}
+use Rattle.automaton.proofs.FilledList.{filled_begun, filled_turn, filled_done}
+use lib.ListN.{length-set}
 use native.Mathlib.Omega.{arith}
-use Prim.Native.Nat.{◌-◌}
-use borrow.Author.Rules.{rules}
 use Rattle.explore.proofs.clear.Goals as goal
 
 pub loop-c-init : goal.loop-c-init

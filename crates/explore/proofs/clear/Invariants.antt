@@ -1,9 +1,7 @@
-use Rattle.automaton.proofs.FilledList.{FilledUpTo, filled_begun, filled_turn, filled_done}
+use Rattle.automaton.proofs.FilledList.{FilledUpTo}
 use Rattle.explore.specs.SetImages.{no_set}
-use lib.ListN.{length, length-set}
-use native.Mathlib.Omega.{arith}
+use lib.ListN.{length}
 use Prim.Native.Nat.{◌-◌}
-use borrow.Author.Rules.{rules}
 use Rattle.explore.proofs.clear.Given as goal
 
 abbrev pub invariant-loop-c : goal.invariant-loop-c

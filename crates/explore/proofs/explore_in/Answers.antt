@@ -3,36 +3,28 @@ use Rattle.explore.proofs.ReachedStates.{StatesReached, reached_begun, reaches_f
 use Rattle.definitions.proofs.SearchArray.{searched_room, searched-state}
 use Rattle.automaton.proofs.Loops.{part_is-drop}
 use Rattle.automaton.proofs.Machine.{is_state_law}
-use Rattle.explore.specs.Reaches.{Hinted, all_reached}
+use Rattle.explore.specs.Reaches.{all_reached}
 use Rattle.explore.proofs.Hints.{hinted_first}
 use Rattle.explore.specs.SetImages.{images_machine}
 use Rattle.automaton.proofs.Explore.{Sound, reached-sound}
 use Rattle.automaton.specs.Explore.{reached}
 use Rattle.automaton.specs.Machine.{Machine, is_state}
-use borrow.Rule.Slice.PartMut.{same_len_mid}
-use lib.ListN.{length, get_or, take, set, length-set, length-drop}
+use lib.ListN.{set, length-drop}
 use lib.Seq.{get_or-set_same}
 use native.Mathlib.Omega.{arith}
-use Prim.Native.Nat.{ℕ, ◌-◌, ◌*◌, ◌<◌}
 use mathlib.Core.Bool.{true}
 use mathlib.Core.Path.{◌≡◌, refl, sym, ◌∙◌}
-use borrow.Author.Rules.{rules}
-use Rattle.explore.proofs.explore_in.Goals.{At-loop-s, Start}
+use Rattle.explore.proofs.explore_in.Goals.{At-loop-s}
 use Rattle.explore.proofs.explore_in.Goals as goal
 
--- the machine, and what has been reached from its start, which stands first among those found
-abbrev machine : (c : Start) → Machine
-machine c = images_machine c.args.images.now c.args.valuations c.args.w c.args.start.set
-
-abbrev begun : (c : At-loop-s) → Start
-begun c = c.before.before.before.before.before.before
-
+-- what has been reached from the start, which stands first among those found
 so_far : (c : At-loop-s)
-    → let p = begun c in
-    StatesReached (machine p) (all_reached (machine p)) (set p.args.found.now 0 p.args.start.set) p.args.raw.now c.loop-s.found c.loop-s.raw c.loop-s.n c.loop-s.s
+    → let a = c.args in
+    let m = images_machine a.images.now a.valuations a.w a.start.set in
+    StatesReached m (all_reached m) (set a.found.now 0 a.start.set) a.raw.now c.loop-s.found c.loop-s.raw c.loop-s.n c.loop-s.s
 so_far c =
-    let p = begun c in
-    c.loop-s.invariant.0 p.args.start.set p.pre.0.3 (get_or-set_same p.args.found.now 0 p.args.start.set 0 (omega (arith, p.pre.1.0.0)))
+    let a = c.args in
+    c.loop-s.invariant.0 a.start.set c.requires.valuations_bound.3 (get_or-set_same a.found.now 0 a.start.set 0 (omega (arith, c.requires.in_bounds.0)))
 
 -- what is reached from a start that is a state
 all : (m : Machine) → reached m 127 ≡ all_reached m
@@ -55,12 +47,6 @@ loop-s-init c =
       hinted_first a.found.now a.hints.now a.start.set (omega (arith, c.requires.in_bounds.0)) c.requires.in_bounds_2.1,
     )
 
-mul-t15 : goal.Need-overflow-mul-t15
-mul-t15 c = omega (arith, (so_far c.before).search.few)
-
-slice-read-t17 : goal.Need-slice-read-t17
-slice-read-t17 c = omega (arith, searched_room (so_far c.before.before).search, (so_far c.before.before).room, (so_far c.before.before).search.few)
-
 pub overflow_mul-at : goal.overflow_mul-at
 overflow_mul-at c =
     let h = reached-row (so_far (goal.at.overflow_mul-at c).At-loop-s) c.loop-s-test.true in
@@ -80,39 +66,22 @@ slice_bounds-visit-start c =
 pub visit-n-requires : goal.visit-n-requires
 visit-n-requires c =
     let t = c.loop-s-test.true in
-    let p = (begun (goal.at.visit-n-requires c).At-loop-s).requires in
+    let p = c.requires in
     let i = so_far (goal.at.visit-n-requires c).At-loop-s in
     let h = reached-row i t in
-    let r = searched_room i.search in record { valuations_bound = (p.0.0, p.0.1, c.loop-s.invariant.1); n_bound = (
-        (i.search.few, omega (arith, r, i.room), rw (part_is-drop, length-drop) (omega arith), searched-state i.search t),
-        (omega (arith, c.loop-s.invariant.2, p.1.1.0), i.once, c.loop-s.invariant.3),
-      ); in_bounds = ; }
-
-pub shape_of-found-then-n-gt127 : goal.shape_of-found-then-n-gt127
-shape_of-found-then-n-gt127 c =
-    let at_before = c in
-    c.visit-n.auto.1.1.1.0 ∙ searched_room (so_far at_before).search ∙ simp length-set
-
-pub shape_of-raw-then-n-gt127 : goal.shape_of-raw-then-n-gt127
-shape_of-raw-then-n-gt127 c =
-    let l = c.loop-s in
-    let v = c.visit-n in
-    let a = l.s * (begun (goal.at.shape_of-raw-then-n-gt127 c).At-loop-s).args.w in
-    same_len_mid a (length l.raw - a) l.raw v.new.1.1.1.1.1.1.0 v.auto.1.1.1.1.1.1.0 ∙ reached-long (so_far (goal.at.shape_of-raw-then-n-gt127 c).At-loop-s)
-
-pub shape_of-next-then-n-gt127 : goal.shape_of-next-then-n-gt127
-shape_of-next-then-n-gt127 c =
-    c.visit-n.auto.1.1.1.1.1.1.1.0 ∙ c.loop-s.invariant.1 ∙ sym (begun (goal.at.shape_of-next-then-n-gt127 c).At-loop-s).requires.0.2
-
-pub shape_of-hints-then-n-gt127 : goal.shape_of-hints-then-n-gt127
-shape_of-hints-then-n-gt127 c = c.visit-n.auto.1.1.1.1.1.1.1.1.0 ∙ c.loop-s.invariant.2
+    let r = searched_room i.search in record {
+      valuations_bound = (p.valuations_bound.0, p.valuations_bound.1, c.loop-s.invariant.1);
+      n_bound = (i.search.few, omega (arith, r, i.room), rw (part_is-drop, length-drop) (omega arith), searched-state i.search t);
+      in_bounds = (omega (arith, c.loop-s.invariant.2, p.in_bounds_2.0), i.once, c.loop-s.invariant.3);
+    }
 
 pub returns-then-n-gt127 : goal.returns-then-n-gt127
 returns-then-n-gt127 c =
-    let p = begun (goal.at.returns-then-n-gt127 c).At-loop-s in
-    let visited = c.visit-n.ensures.visited_by_images p.args.start.set in
-    reaches_from p.args.start.set (omega (arith, p.pre.1.0.0)) (sound (machine p) (is_state_law p.args.start.set p.pre.0.3)).some
-    (reached-over (so_far (goal.at.returns-then-n-gt127 c).At-loop-s) c.loop-s-test.true (rw part_is-drop c visited) refl c.if-n-gt127.true)
+    let a = c.args in
+    let m = images_machine a.images.now a.valuations a.w a.start.set in
+    let state = c.requires.valuations_bound.3 in
+    reaches_from a.start.set (omega (arith, c.requires.in_bounds.0)) (sound m (is_state_law a.start.set state)).some
+    (reached-over (so_far (goal.at.returns-then-n-gt127 c).At-loop-s) c.loop-s-test.true (rw part_is-drop at (c.visit-n.ensures.visited_by_images a.start.set)) refl c.if-n-gt127.true)
 
 pub overflow_add-s : goal.overflow_add-s
 overflow_add-s c = omega (arith, (so_far (goal.at.overflow_add-s c).At-loop-s).search.few)
@@ -126,25 +95,15 @@ loop-s-preserved c =
     let v = c.visit-n in
     let t = c.loop-s-test.true in (
       λ start state e. reached-turn (l.invariant.0 start state e) t (rw part_is-drop at (v.ensures.visited_by_images start)) c.if-n-gt127.false,
-      v.auto.1.1.1.1.1.1.1.0 ∙ l.invariant.1,
-      v.auto.1.1.1.1.1.1.1.1.0 ∙ l.invariant.2,
+      v.auto.next ∙ l.invariant.1,
+      v.auto.hints ∙ l.invariant.2,
       v.ensures.hinted c.if-n-gt127.false,
     )
 
-pub shape_of-found : goal.shape_of-found
-shape_of-found c = searched_room (so_far (goal.at.shape_of-found c).At-loop-s).search ∙ simp length-set
-
-pub shape_of-raw : goal.shape_of-raw
-shape_of-raw c = reached-long (so_far (goal.at.shape_of-raw c).At-loop-s)
-
-pub shape_of-next : goal.shape_of-next
-shape_of-next c = c.loop-s.invariant.1 ∙ sym (begun (goal.at.shape_of-next c).At-loop-s).pre.0.2
-
-pub shape_of-hints : goal.shape_of-hints
-shape_of-hints c = c.loop-s.invariant.2
-
 pub returns : goal.returns
 returns c =
-    let p = begun (goal.at.returns c).At-loop-s in
-    reaches_from p.args.start.set (omega (arith, p.pre.1.0.0)) (sound (machine p) (is_state_law p.args.start.set p.pre.0.3)).some
+    let a = c.args in
+    let m = images_machine a.images.now a.valuations a.w a.start.set in
+    let state = c.requires.valuations_bound.3 in
+    reaches_from a.start.set (omega (arith, c.requires.in_bounds.0)) (sound m (is_state_law a.start.set state)).some
     (reached-done (so_far (goal.at.returns c).At-loop-s) refl c.loop-s-test.false)

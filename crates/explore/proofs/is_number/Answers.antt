@@ -1,7 +1,6 @@
 -- `is_number` meets its contract: a number that is no place fails at once.
 use borrow.Author.Tests.{lt-ltb, le-ltb, lt-leb, le-leb}
 use native.Mathlib.Omega.{arith}
-use borrow.Author.Rules.{rules}
 use Rattle.explore.proofs.is_number.Goals as goal
 
 pub returns-then-number-lt1 : goal.returns-then-number-lt1

@@ -7,7 +7,6 @@ use borrow.Author.Tests.{eqb-true, eqb-false}
 use native.Mathlib.Omega.{arith}
 use Prim.Native.Nat.{◌%◌, ◌<◌}
 use mathlib.Core.Path.{sym, ◌∙◌}
-use borrow.Author.Rules.{rules}
 use Rattle.explore.proofs.note.Goals.{Else-is_empty}
 use Rattle.explore.proofs.note.Goals as goal
 
@@ -22,13 +21,13 @@ pub returns-then-is_empty : goal.returns-then-is_empty
 returns-then-is_empty c =
     let a = c.args in
     let none = eqb-true a.x.set 0 (sym c.is_empty.ensures ∙ c.if-is_empty.true) in
-    let noted = note_none a.found.now a.n a.x.set c.requires.0 none in record { value = noted.0; found_after = noted.1; hinted = hinted_none _ _ a.x.set none c.requires.4; }
+    let noted = note_none a.found.now a.n a.x.set c.requires.0 none in record { value = noted.0; found_after = noted.1; hinted = hinted_none _ _ a.x.set none c.requires.4 }
 
 pub returns-then-is_number : goal.returns-then-is_number
 returns-then-is_number c =
     let a = c.args in
     let noted = note_hint a.found.now a.n a.x.set c.requires.0 c.requires.3 c.wide-hint.result (sym c.is_number.ensures ∙ c.if-is_number.true) in
-    let within = hint-within a.found.now a.n a.x.set c.requires.0 c.wide-hint.result (sym c.is_number.ensures ∙ c.if-is_number.true) in record { value = noted.0; found_after = noted.1; hinted = hinted_known _ _ a.x.set c.wide-hint.result (some (goal.at.returns-then-is_number c).Else-is_empty) noted.0 within c.requires.4; }
+    let within = hint-within a.found.now a.n a.x.set c.requires.0 c.wide-hint.result (sym c.is_number.ensures ∙ c.if-is_number.true) in record { value = noted.0; found_after = noted.1; hinted = hinted_known _ _ a.x.set c.wide-hint.result (some (goal.at.returns-then-is_number c).Else-is_empty) noted.0 within c.requires.4 }
 
 pub enter-number-requires : goal.enter-number-requires
 enter-number-requires c =
@@ -45,4 +44,4 @@ returns c =
     let e = c.enter-number.ensures in
     let x = c.args.x.set in
     let number = number-some (take c.args.n c.args.found.now) x (some (goal.at.returns c).Else-is_empty) in
-    let low : x % 251 < 251 = mod-lt x (omega arith) in record { value = e.value; found_after = e.found_after; hinted = hinted-entered _ _ x c.requires.4 c.enter-number.result (omega (arith, e.value, number)) (omega (arith, c.requires.2)); }
+    let low : x % 251 < 251 = mod-lt x (omega arith) in record { value = e.value; found_after = e.found_after; hinted = hinted-entered _ _ x c.requires.4 c.enter-number.result (omega (arith, e.value, number)) (omega (arith, c.requires.2)) }

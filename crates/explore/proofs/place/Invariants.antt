@@ -1,10 +1,6 @@
-use mathlib.Core.Path.{◌≡◌, sym, ◌∙◌}
+use mathlib.Core.Path.{◌≡◌}
 use Prim.Native.Nat.{ℕ, ◌≤◌, ◌<◌, ◌-◌}
-use borrow.Author.Count.{below_more}
-use borrow.Author.Tests.{eqb-true, eqb-false}
 use lib.ListN.{get_or}
-use Rattle.explore.proofs.StatePlaces.{place_here, place-nowhere}
-use borrow.Author.Rules.{rules}
 use Rattle.explore.proofs.place.Given as goal
 
 abbrev pub invariant-loop-i : goal.invariant-loop-i

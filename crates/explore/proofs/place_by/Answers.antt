@@ -1,6 +1,5 @@
 -- `place_by` meets its contract: a hint of 0 says that the place is 0.
 use mathlib.Core.Path.{sym}
-use borrow.Author.Rules.{rules}
 use Rattle.explore.proofs.place_by.Goals as goal
 
 pub returns-then-hint-eq0 : goal.returns-then-hint-eq0

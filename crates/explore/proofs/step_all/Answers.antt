@@ -5,10 +5,9 @@ use Rattle.automaton.proofs.Below.{length-list-below}
 use Rattle.automaton.proofs.Loops.{row_within}
 use lib.ListN.{length}
 use native.Mathlib.Omega.{arith}
-use Prim.Native.Nat.{ℕ, ◌≤◌, ◌-◌}
+use Prim.Native.Nat.{ℕ}
 use mathlib.Core.List.{List}
 use mathlib.Core.Path.{◌≡◌, sym, ap, ◌∙◌}
-use borrow.Author.Rules.{rules}
 use Rattle.explore.proofs.step_all.Goals.{At-loop-v}
 use Rattle.explore.proofs.step_all.Goals as goal
 

@@ -1,12 +1,10 @@
 -- `unite` meets its contract: the sets passed so far are united.
-use Rattle.automaton.proofs.FilledList.{FilledUpTo, filled_begun, filled_next, filled_turn, filled_done}
-use Rattle.explore.specs.SetImages.{union_at}
+use Rattle.automaton.proofs.FilledList.{filled_begun, filled_next, filled_turn, filled_done}
 use lib.ListN.{length, get_or, length-set}
 use Rattle.definitions.specs.Situation.{union}
 use native.Mathlib.Omega.{arith}
-use Prim.Native.Nat.{ℕ, ◌-◌, ◌<◌}
+use Prim.Native.Nat.{ℕ, ◌<◌}
 use mathlib.Core.Path.{ap, ◌∙◌}
-use borrow.Author.Rules.{rules}
 use Rattle.explore.proofs.unite.Goals as goal
 
 pub loop-c-init : goal.loop-c-init

@@ -1,11 +1,7 @@
-use Rattle.automaton.proofs.FilledList.{FilledUpTo, filled_begun, filled_next, filled_turn, filled_done}
+use Rattle.automaton.proofs.FilledList.{FilledUpTo}
 use Rattle.explore.specs.SetImages.{union_at}
-use lib.ListN.{length, get_or, length-set}
-use Rattle.definitions.specs.Situation.{union}
-use native.Mathlib.Omega.{arith}
-use Prim.Native.Nat.{ℕ, ◌-◌, ◌<◌}
-use mathlib.Core.Path.{ap, ◌∙◌}
-use borrow.Author.Rules.{rules}
+use lib.ListN.{length}
+use Prim.Native.Nat.{◌-◌}
 use Rattle.explore.proofs.unite.Given as goal
 
 abbrev pub invariant-loop-c : goal.invariant-loop-c

@@ -1,22 +1,20 @@
 -- `visit` meets its contract: after c turns the codes below c have been tried.
 use Rattle.explore.proofs.SituationVisits.{CodesTried, tried_begun, tried-room, tried-once, tried-row, tried-low, tried-turn, tried-over, tried-done}
 use Rattle.explore.proofs.SetRows.{row_step}
-use Rattle.explore.specs.Reaches.{Hinted}
 use Rattle.explore.proofs.Hints.{hinted_turn}
-use Rattle.explore.specs.SetImages.{image_of_set_in, images_of_set, images_machine}
+use Rattle.explore.specs.SetImages.{image_of_set_in, images_machine}
 use Rattle.automaton.specs.Machine.{step}
 use Rattle.automaton.proofs.Below.{length-list-below}
-use lib.ListN.{length, get_or, take, length-set}
+use lib.ListN.{length, get_or, take}
 use native.Mathlib.Omega.{arith}
-use Prim.Native.Nat.{ℕ, ◌-◌, ◌<◌, ◌≤◌}
-use mathlib.Core.Path.{◌≡◌, refl, sym, ap, ◌∙◌}
-use borrow.Author.Rules.{rules}
-use Rattle.explore.proofs.visit.Goals.{After-note-number, At-loop-c, In-loop-c}
+use Prim.Native.Nat.{ℕ}
+use mathlib.Core.Path.{◌≡◌, refl, ap, ◌∙◌}
+use Rattle.explore.proofs.visit.Goals.{At-loop-c, In-loop-c}
 use Rattle.explore.proofs.visit.Goals as goal
 
 -- the situation was handed on and the loop has it no more: the invariant speaks of every state that leads to the sets in `next`
 -- there is a set for each code
-long : (c : At-loop-c) → length c.step_all.new.1.1.1.1.0 ≡ c.args.w
+long : (c : At-loop-c) → length c.step_all.new.next ≡ c.args.w
 long c =
     let a = c.args in
     ap length c.step_all.ensures ∙ length-list-below (image_of_set_in a.images.now a.valuations a.w a.situation.set) a.w
@@ -32,15 +30,11 @@ tried c start =
 -- where the code leads
 led : (c : In-loop-c) (start : ℕ)
     → let a = c.args in
-    get_or c.step_all.new.1.1.1.1.0 c.loop-c.c 0 ≡ step (images_machine a.images.now a.valuations a.w start) a.situation.set c.loop-c.c
+    get_or c.step_all.new.next c.loop-c.c 0 ≡ step (images_machine a.images.now a.valuations a.w start) a.situation.set c.loop-c.c
 led c start =
     let p = c in
     let a = p.args in
     row_step a.images.now a.w a.situation.set start a.valuations c.loop-c.c p.requires.n_bound.3 c.step_all.ensures c.loop-c-test.true
-
--- its number is a byte
-low : (c : After-note-number) → c.note-number.result ≤ 128
-low c = tried-low (tried c.before.before.before.before.before 0) c.loop-c-test.true (led c.before.before.before.before 0) c.note-number.ensures.value c.note-number.ensures.found_after
 
 pub loop-c-init : goal.loop-c-init
 loop-c-init c =
@@ -59,29 +53,16 @@ note-number-requires c =
 
 pub overflow_cast-row : goal.overflow_cast-row
 overflow_cast-row c =
-    let h = low (goal.at.overflow_cast-row c).After-note-number in
+    let at = goal.at.overflow_cast-row c in
+    let h = tried-low (tried at.At-loop-c 0) c.loop-c-test.true (led at.In-loop-c 0) c.note-number.ensures.value c.note-number.ensures.found_after in
     omega arith
 
 pub bounds-row-c : goal.bounds-row-c
 bounds-row-c c = omega (arith, tried-row (tried (goal.at.bounds-row-c c).At-loop-c 0), (tried (goal.at.bounds-row-c c).At-loop-c 0).long)
 
-pub shape_of-found-then-k-gt127 : goal.shape_of-found-then-k-gt127
-shape_of-found-then-k-gt127 c = c.note-number.auto.0 ∙ tried-room (tried (goal.at.shape_of-found-then-k-gt127 c).At-loop-c 0)
-
-pub shape_of-row-then-k-gt127 : goal.shape_of-row-then-k-gt127
-shape_of-row-then-k-gt127 c = simp length-set (tried-row (tried (goal.at.shape_of-row-then-k-gt127 c).At-loop-c 0))
-
-pub shape_of-next-then-k-gt127 : goal.shape_of-next-then-k-gt127
-shape_of-next-then-k-gt127 c =
-    let at_pre = c in
-    long (goal.at.shape_of-next-then-k-gt127 c).At-loop-c ∙ sym at_pre.requires.valuations_bound.2
-
-pub shape_of-hints-then-k-gt127 : goal.shape_of-hints-then-k-gt127
-shape_of-hints-then-k-gt127 c = c.note-number.auto.1.1.1.0 ∙ c.loop-c.invariant.1
-
 pub returns-then-k-gt127 : goal.returns-then-k-gt127
 returns-then-k-gt127 c =
-    let e = c.greater-k.ensures in record { visited_by_images = λ start. rw e (tried-over (tried (goal.at.returns-then-k-gt127 c).At-loop-c start) c.loop-c-test.true (led (goal.at.returns-then-k-gt127 c).In-loop-c start) c.note-number.ensures.value c.note-number.ensures.found_after (omega arith)); hinted = λ few. absurd (omega arith); }
+    let e = c.greater-k.ensures in record { visited_by_images = λ start. rw e (tried-over (tried (goal.at.returns-then-k-gt127 c).At-loop-c start) c.loop-c-test.true (led (goal.at.returns-then-k-gt127 c).In-loop-c start) c.note-number.ensures.value c.note-number.ensures.found_after (omega arith)); hinted = λ few. absurd (omega arith) }
 
 pub loop-c-smaller : goal.loop-c-smaller
 loop-c-smaller c = omega arith
@@ -94,20 +75,8 @@ loop-c-preserved c =
     let n = c.note-number in
     let e = c.greater-k.ensures in
     let found = tried (goal.at.loop-c-preserved c).At-loop-c 0 in
-    let hinted = hinted_turn c.loop-c.found c.loop-c.k (get_or c.step_all.new.1.1.1.1.0 c.loop-c.c 0) n.result _ _ _ (omega (arith, tried-room found, found.room, found.few)) e n.ensures.value n.ensures.found_after n.ensures.hinted in
-    (λ start s state is. rw e (tried-turn (i.0 start s state is) t (row_step a.images.now a.w s start a.valuations _ state is t) n.ensures.value n.ensures.found_after (omega arith)), n.auto.1.1.1.0 ∙ i.1, hinted)
-
-pub shape_of-found : goal.shape_of-found
-shape_of-found c = tried-room (tried (goal.at.shape_of-found c).At-loop-c 0)
-
-pub shape_of-row : goal.shape_of-row
-shape_of-row c = tried-row (tried (goal.at.shape_of-row c).At-loop-c 0)
-
-pub shape_of-next : goal.shape_of-next
-shape_of-next c = long (goal.at.shape_of-next c).At-loop-c ∙ sym c.requires.valuations_bound.2
-
-pub shape_of-hints : goal.shape_of-hints
-shape_of-hints c = c.loop-c.invariant.1
+    let hinted = hinted_turn c.loop-c.found c.loop-c.k (get_or c.step_all.new.next c.loop-c.c 0) n.result _ _ _ (omega (arith, tried-room found, found.room, found.few)) e n.ensures.value n.ensures.found_after n.ensures.hinted in
+    (λ start s state is. rw e (tried-turn (i.0 start s state is) t (row_step a.images.now a.w s start a.valuations _ state is t) n.ensures.value n.ensures.found_after (omega arith)), n.auto.hints ∙ i.1, hinted)
 
 pub returns : goal.returns
-returns c = record { visited_by_images = λ start. tried-done (tried (goal.at.returns c).At-loop-c start) c.loop-c-test.false; hinted = λ few. c.loop-c.invariant.2; }
+returns c = record { visited_by_images = λ start. tried-done (tried (goal.at.returns c).At-loop-c start) c.loop-c-test.false; hinted = λ few. c.loop-c.invariant.2 }

@@ -1,15 +1,9 @@
-use Rattle.explore.proofs.SituationVisits.{CodesTried, tried_begun, tried-room, tried-once, tried-row, tried-low, tried-turn, tried-over, tried-done}
-use Rattle.explore.proofs.SetRows.{row_step}
+use Rattle.explore.proofs.SituationVisits.{CodesTried}
 use Rattle.explore.specs.Reaches.{Hinted}
-use Rattle.explore.proofs.Hints.{hinted_turn}
-use Rattle.explore.specs.SetImages.{image_of_set_in, images_of_set, images_machine}
-use Rattle.automaton.specs.Machine.{step}
-use Rattle.automaton.proofs.Below.{length-list-below}
-use lib.ListN.{length, get_or, take, length-set}
-use native.Mathlib.Omega.{arith}
-use Prim.Native.Nat.{ℕ, ◌-◌, ◌<◌, ◌≤◌}
-use mathlib.Core.Path.{◌≡◌, refl, sym, ap, ◌∙◌}
-use borrow.Author.Rules.{rules}
+use Rattle.explore.specs.SetImages.{images_of_set, images_machine}
+use lib.ListN.{length, take}
+use Prim.Native.Nat.{ℕ, ◌-◌, ◌<◌}
+use mathlib.Core.Path.{◌≡◌}
 use Rattle.explore.proofs.visit.Given as goal
 
 abbrev pub invariant-loop-c : goal.invariant-loop-c
