@@ -1,15 +1,13 @@
 -- Rows with the numbers of states, and the bytes of a book: a header of 12 bytes and the rows after it.
-use mathlib.Core.Path.{◌≡◌, refl, sym, ap, ◌∙◌}
-use mathlib.Core.List.{List, [], ◌∷◌, ◌++◌, map-append, append-nil, append_assoc}
+use mathlib.Core.Path.{◌≡◌, sym, ap, ◌∙◌}
+use mathlib.Core.List.{List, [], ◌∷◌, ◌++◌, map-append, append_assoc}
 use Prim.Native.Nat.{ℕ, ◌+◌, ◌-◌, ◌*◌, ◌<◌, ◌≤◌}
-use native.Mathlib.Nat.{le_refl}
 use native.Mathlib.Omega.{arith}
 use native.Mathlib.Numerals.{add-one}
 use lib.ListN.{length, get_or, take, drop, set, length-map, length-drop, length-append}
-use lib.Seq.{length-take-le, take-suc, take_all}
+use lib.Seq.{length-take-le, take-suc, drop-drop}
 use borrow.Rule.Slice.PartMut.{put_mid}
 use Rattle.automaton.specs.Join.{minimal}
-use Rattle.automaton.proofs.Loops.{part_is-drop}
 use Rattle.automaton.proofs.WellFormed.{get_or-map-within, Wide}
 use Rattle.definitions.specs.Answer.{written}
 use Rattle.definitions.specs.Bytes.{byte}
@@ -17,9 +15,9 @@ use Rattle.definitions.specs.Book.{concat, book_bytes}
 use Rattle.definitions.specs.Rows.{rows_in, looked_up, laid, TableIn}
 use Rattle.join.specs.Numbers.{numbered_row, numbered_rows, book_header, StatesBelow}
 use Rattle.join.proofs.Numbers.{JoinedRows}
-use Rattle.definitions.proofs.Written.{length-written, written_next}
+use Rattle.definitions.proofs.Written.{written_next}
 use Rattle.definitions.proofs.BookBytes.{length-of-bytes}
-use Rattle.definitions.proofs.RowsWritten.{laid_none, laid-turn, laid-after}
+use Rattle.definitions.proofs.RowsWritten.{laid-after}
 use Rattle.definitions.proofs.TableBytes.{state-row}
 
 -- ---- one row
@@ -64,17 +62,13 @@ mark = 0x42 ∷ 0x4F ∷ 0x4B ∷ 0 ∷ 1 ∷ []
 
 module _ (frame : List ℕ) (six : length frame ≡ 6) where
   -- the mark is copied, and the frame after it
-  pub header-done : (book begun part : List ℕ) (n : ℕ) → 12 ≤ length book → begun ≡ written mark book
-      → part ≡ take (length frame) frame ++ drop (length frame) (take (length begun - 5) (drop 5 begun))
-      → set (put_mid 5 (length begun - 5) begun part) 11 n ≡ written (book_header frame n) book
-  header-done book begun part n l eb ep =
-      let copied : part ≡ written frame (drop 5 begun) = rw (← part_is-drop 5 begun) (ep ∙ ap (λ (l : List ℕ). l ++ drop (length frame) (take (length begun - 5) (drop 5 begun))) (take_all (length frame) frame (le_refl (length frame)))) in
-      let room : length begun ≡ length book = ap length eb ∙ length-written mark book (omega arith) in
-      let wide : Wide 6 (frame ∷ []) = λ i b. let e : i ≡ 0 = omega arith in rw e six in
-      let laid-there = laid-turn 5 6 (frame ∷ []) begun wide 0 begun part 5 (omega arith) (omega arith) (sym (laid_none 5 begun)) refl copied in
-      let here : mark ++ concat (frame ∷ []) ≡ mark ++ frame = ap (λ (l : List ℕ). mark ++ l) (append-nil frame) in
-      let both = laid-there ∙ ap (laid 5 (frame ∷ [])) eb ∙ laid-after mark (frame ∷ []) book 5 refl ∙ ap (λ (l : List ℕ). written l book) here in
-      rw both (written_next (mark ++ frame) book 11 n (omega arith) (omega arith))
+  pub header-done : (book front part : List ℕ) (n : ℕ) → 12 ≤ length book → front ≡ mark → part ≡ frame
+      → set (put_mid 5 6 (front ++ drop 5 book) part) 11 n ≡ written (book_header frame n) book
+  header-done book front part n l eb ep =
+      let long : length (mark ++ frame) ≡ 11 = omega (arith, six) in
+      let both : put_mid 5 6 (mark ++ drop 5 book) frame ≡ written (mark ++ frame) book =
+      ap (λ (l : List ℕ). mark ++ (frame ++ l)) (drop-drop 6 5 book ∙ ap (λ (k : ℕ). drop k book) (sym long)) in
+      rw (eb, ep) (ap (λ (l : List ℕ). set l 11 n) both ∙ written_next (mark ++ frame) book 11 n long (omega arith))
 
   pub header-length : (n : ℕ) → length (book_header frame n) ≡ 12
   header-length n = omega (arith, length-append frame (n ∷ []))

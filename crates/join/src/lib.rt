@@ -1,4 +1,6 @@
 // A table's alike states joined: one row for each class of them, numbered by its earliest history, written as a book.
+#![tactic(auto)]
+
 ghost use Rattle.std.specs.Prelude.{◌≡◌, cond, ◌+◌, ◌-◌, ◌*◌, ◌<◌, ◌≤◌, eqb, length, take, set};
 ghost use Rattle.automaton.specs.Join.{minimal};
 ghost use Rattle.automaton.specs.Ordered.{Ordered};
@@ -79,8 +81,8 @@ fn write_header(book: &mut [u8], frame: &[u8], n: usize)
     requires { (12 ≤ length book.old) × (length frame.now ≡ 6) × (n ≤ 127) }
     ensures { book.new ≡ written (book_header frame.now n) book.old }
 {
-    bytes::copy(b"BOK\x00\x01", book);
-    bytes::copy(frame, &mut book[5..]);
+    book[..5].copy_from_slice(b"BOK\x00\x01");
+    book[5..11].copy_from_slice(frame);
     book[11] = n as u8;
 }
 
