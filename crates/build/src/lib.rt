@@ -1,5 +1,7 @@
 // From a policy to its book: the situations that histories reach, alike ones joined, numbered by their earliest history, and written as bytes. Row 1 (the
 // buffer) and row 11 (over 127 situations) are decided here, the others in policycheck; stated in definitions/specs/Build.antt and Refusal.antt.
+#![tactic(auto)]
+
 ghost use Rattle.std.specs.Prelude.{◌≡◌, ◌+◌, ◌*◌, ◌<◌, ◌≤◌, length};
 ghost use Rattle.automaton.specs.Join.{minimal};
 ghost use Rattle.automaton.specs.Ordered.{Ordered};
