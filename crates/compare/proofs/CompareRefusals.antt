@@ -1,11 +1,11 @@
 -- The rows of a comparison judged in order: the number of the lowest that refuses the call, and what holds of books that none refuses.
 use mathlib.Core.Path.{◌≡◌}
-use mathlib.Core.Bool.{Bool, true, false, not}
+use mathlib.Core.Bool.{Bool, true, false}
 use mathlib.Core.List.{List}
 use Prim.Native.Nat.{ℕ, ◌≤◌, ◌<◌}
 use lib.Dec.{leb}
 use lib.ListN.{length}
-use borrow.Author.Tests.{le-leb, lt-leb, leb-true, ne_eqb, not-true, not-false}
+use borrow.Author.Tests.{le-leb, lt-leb, leb-true, ne_eqb}
 use Rattle.automaton.specs.Below.{same_list}
 use Rattle.definitions.specs.Answer.{then_judge}
 use Rattle.definitions.specs.Book.{frame}
@@ -34,13 +34,13 @@ module _ (b d buffer : List ℕ) where
       by-second n = rw (le-leb 256 (length buffer) long, ← ex, passes, ← ey, ne_eqb y 0 n)
 
       module _ (passes' : y ≡ 0) (t : Bool) (et : t ≡ same_list (frame b) (frame d)) where
-        pub by-frame : not t ≡ true → 15 ≡ compare_refusal b d buffer
+        pub by-frame : t ≡ false → 15 ≡ compare_refusal b d buffer
         unfolding compare_refusal row15
-        by-frame e = rw (le-leb 256 (length buffer) long, ← ex, passes, ← ey, passes', ← et, not-true t e)
+        by-frame e = rw (le-leb 256 (length buffer) long, ← ex, passes, ← ey, passes', ← et, e)
 
-        pub by-none : not t ≡ false → 0 ≡ compare_refusal b d buffer
+        pub by-none : t ≡ true → 0 ≡ compare_refusal b d buffer
         unfolding compare_refusal row15
-        by-none e = rw (le-leb 256 (length buffer) long, ← ex, passes, ← ey, passes', ← et, not-false t e)
+        by-none e = rw (le-leb 256 (length buffer) long, ← ex, passes, ← ey, passes', ← et, e)
 
 -- no row refuses the call
 pub record ComparePassed (b d buffer : List ℕ) : Type 0 where

@@ -1,5 +1,7 @@
 // The comparison of two books: whether the same histories are possible in both, and else the earliest that is possible in just one.
 // Row 1 (the buffer) and row 15 (the frames) are decided here; stated in definitions/specs/Compare.antt and Refusal.antt.
+#![tactic(auto)]
+
 ghost use Rattle.std.specs.Prelude.{◌≡◌, ◌≤◌, length};
 ghost use Rattle.definitions.specs.Answer.{given, written, history_bytes};
 ghost use Rattle.definitions.specs.Compare.{comparison, compare_refusal, compare_answer, compare_buffer};

@@ -18,7 +18,7 @@ use Rattle.automaton.proofs.Pair.{difference-is}
 use Rattle.definitions.specs.Book.{width, states, book_machine}
 use Rattle.definitions.specs.Compare.{comparison}
 use Rattle.definitions.proofs.BookSteps.{step-inside, has-states}
-use Rattle.search.specs.Trail.{first_at, placed, history_at}
+use Rattle.search.specs.Trail.{placed, history_at}
 use Rattle.search.proofs.Trails.{placed-length}
 use Rattle.comparelabels.specs.LabelBytes.{label_at, itself, begun_labels, merged, OwnFrom}
 use Rattle.comparelabels.specs.RowLabels.{RowPair, SameLabel}
@@ -27,8 +27,8 @@ use Rattle.comparelabels.proofs.FirstFailing.{induction}
 use Rattle.comparelabels.proofs.LabelBytes.{labels-merged, low_label, not_none, merged-own, begun_length, begun_own, begun_merged}
 use Rattle.comparepairs.specs.PairSearch.{Books, BooksReady, PairSearch, left_at, right_at, queue_of, row_of, Both, Spotted, Outcome}
 use Rattle.comparepairs.specs.declared.Tried.{Tried}
-use Rattle.comparepairs.specs.declared.Spot.TheVariants.{Nowhere, At}
-use Rattle.comparepairs.proofs.RowSteps.{row-length, row_step, row-most}
+use Rattle.comparepairs.specs.declared.Spot.TheVariants.{Nowhere}
+use Rattle.comparepairs.proofs.RowSteps.{row-length, row_step}
 use Rattle.comparepairs.proofs.QueueBytes.{left-put, right-put, pair_added}
 
 -- ---- the two machines. The number states b + 1 stands for no state, so that the first machine is taken as one with so many states.

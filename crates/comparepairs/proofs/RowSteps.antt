@@ -6,7 +6,7 @@ use native.Mathlib.Omega.{arith}
 use lib.ListN.{length, get_or, drop, length-drop}
 use lib.Seq.{get_or-take, length-take-le}
 use Rattle.automaton.specs.Machine.{step}
-use Rattle.definitions.specs.Book.{width, states, entry, book_machine}
+use Rattle.definitions.specs.Book.{width, states, book_machine}
 use Rattle.definitions.specs.Checked.{BookPassed}
 use Rattle.definitions.proofs.BookSteps.{step-is-entry, step-inside}
 use Rattle.book.proofs.Places.{row_inside}

@@ -1,6 +1,8 @@
 // The search for a difference of two books: breadth-first over pairs of states, one of each book, with labels (Hopcroft and Karp). The states of a
 // queued pair get one label, and a pair of one label is not queued, so that there are at most as many pairs as states. The queue has two bytes a place:
 // pair k has its parent's place and its code at place k, as a trail has them, and its states at place label.len() + k.
+#![tactic(auto)]
+
 ghost use Rattle.std.specs.Prelude.{◌≡◌, true, false, ◌+◌, ◌*◌, ◌≤◌, ◌<◌, length, get_or};
 ghost use Rattle.definitions.specs.Book as Book;
 ghost use Rattle.definitions.specs.Checked.{BookLayout};

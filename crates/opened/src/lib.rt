@@ -1,5 +1,7 @@
 // The opened book: the borrowed bytes of a book and the state reached so far. Each function calls that of `walk` on the bytes and the state, and its proof is a
 // walk of its MIR by hand. A caller that keeps the bytes and the state apart calls `walk`.
+#![tactic(auto)]
+
 ghost use Rattle.std.specs.Prelude.{◌≡◌};
 ghost use Rattle.definitions.specs.Opened.{tell_answer};
 ghost use Rattle.walk.specs.Walk.{told_answer};

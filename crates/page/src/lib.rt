@@ -1,4 +1,6 @@
 // A page of the book for the file room: one line a state. Row 1 (the buffer) is decided here; stated in definitions/specs/Page.antt.
+#![tactic(auto)]
+
 ghost use Rattle.std.specs.Prelude.{◌≡◌, ◌*◌, ◌≤◌, ◌<◌, length};
 ghost use Rattle.definitions.specs.Answer.{written};
 ghost use Rattle.definitions.specs.Book as Book;

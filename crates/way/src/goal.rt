@@ -8,7 +8,7 @@ ghost use Rattle.way.specs.FirstState.{GoalIn, is_goal};
 use book::{Telling, telling_at};
 
 // What is sought, and the width of the book in which it is, which is taken once.
-#[derive(Drop)]
+#[derive(Clone, Copy)]
 pub struct Goal {
     pub request: usize,
     pub outcome: usize,

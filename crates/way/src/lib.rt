@@ -1,5 +1,7 @@
 // A way to a decision: the earliest possible history after which a request has an outcome. Rows 1 (the buffer), 18 and 16 are decided here; stated in
 // definitions/specs/Way.antt.
+#![tactic(auto)]
+
 ghost use Rattle.std.specs.Prelude.{◌≡◌, ◌≤◌, length};
 ghost use Rattle.definitions.specs.Way.{way_answer, way_buffer};
 ghost use Rattle.way.specs.FirstState.{GoalIn, Shows};
