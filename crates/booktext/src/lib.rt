@@ -1,4 +1,6 @@
 // The texts of a book: the lines of its findings, or a line of its bytes.
+#![tactic(auto)]
+
 ghost use Rattle.std.specs.Prelude.{◌≡◌, ◌≤◌, length};
 ghost use Rattle.definitions.specs.Refusal.{book_refusal};
 ghost use Rattle.text.specs.Put.{Put};
