@@ -13,7 +13,7 @@ use hex::put_hex_line;
 use lines::put_book;
 
 // Which text is written of a book.
-#[derive(Drop)]
+#[derive(Clone, Copy)]
 pub enum Form {
     Findings,
     Bytes,
