@@ -1,4 +1,6 @@
 // The texts of a book: the lines of its findings, or a line of its bytes.
+#![tactic(auto)]
+
 ghost use Rattle.std.specs.Prelude.{◌≡◌, ◌≤◌, length};
 ghost use Rattle.definitions.specs.Refusal.{book_refusal};
 ghost use Rattle.text.specs.Put.{Put};
@@ -11,7 +13,7 @@ use hex::put_hex_line;
 use lines::put_book;
 
 // Which text is written of a book.
-#[derive(Drop)]
+#[derive(Clone, Copy)]
 pub enum Form {
     Findings,
     Bytes,

@@ -1,6 +1,8 @@
 // Reads a book and a list of steps from standard input, plays the steps on the opened book, and writes after the opening and after each step the state and what
 // is told of each request, or the number of a refusal. The input: the length of the book in two bytes, the high byte first, the book, and one byte for each step.
 // Where the input cannot be read nothing is played; that, and output that could not be written, is reported on standard error.
+#![tactic(auto)]
+
 mod input;
 mod lines;
 mod steps;
@@ -8,21 +10,25 @@ mod steps;
 use streams::{Input, read_input, report, write_output};
 use text::first;
 
-fn write_play(input: &[u8]) {
+fn write_play(rt: &HostRuntime, input: &[u8]) {
     let mut text = [0u8; 131072];
     let length = input::play(input, &mut text);
     write_output(
+        rt,
         first(&text, length),
         b"play: standard output could not be written in full\n",
     );
 }
 
-fn main() {
+fn main(rt: HostRuntime) {
     let mut input = [0u8; 17541];
-    let read = read_input(&mut input);
+    let read = read_input(&rt, &mut input);
     let Input::Length(length) = read else {
-        report(b"play: standard input could not be read; nothing was played\n");
+        report(
+            &rt,
+            b"play: standard input could not be read; nothing was played\n",
+        );
         return;
     };
-    write_play(first(&input, length));
+    write_play(&rt, first(&input, length));
 }

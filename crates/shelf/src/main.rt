@@ -1,5 +1,7 @@
 // Reads a policy from standard input and writes the number of its book's states and the three findings, or the number that refuses it. Of a longer input the first
 // 1,024 bytes are judged. Where the input cannot be read nothing is judged; that, and output that could not be written, is reported on standard error.
+#![tactic(auto)]
+
 ghost use Rattle.std.specs.Prelude.{◌≡◌, ◌≤◌, length};
 ghost use Rattle.definitions.specs.Shelf.{shelf_text};
 ghost use Rattle.text.specs.Room.{length_within, written_within};
@@ -19,21 +21,25 @@ pub fn shelf(input: &[u8], out: &mut [u8]) -> usize
     policy_text(first(input, 1024), Form::Findings, out)
 }
 
-fn write_shelf(input: &[u8]) {
+fn write_shelf(rt: &HostRuntime, input: &[u8]) {
     let mut text = [0u8; 2048];
     let length = shelf(input, &mut text);
     write_output(
+        rt,
         first(&text, length),
         b"shelf: standard output could not be written in full\n",
     );
 }
 
-fn main() {
+fn main(rt: HostRuntime) {
     let mut input = [0u8; 1024];
-    let read = read_input(&mut input);
+    let read = read_input(&rt, &mut input);
     let Input::Length(length) = read else {
-        report(b"shelf: standard input could not be read; nothing was judged\n");
+        report(
+            &rt,
+            b"shelf: standard input could not be read; nothing was judged\n",
+        );
         return;
     };
-    write_shelf(first(&input, length));
+    write_shelf(&rt, first(&input, length));
 }

@@ -1,12 +1,12 @@
 -- What is told of standard input, and what reading it does to a buffer.
-use Rattle.std.specs.Prelude.{◌≡◌, List, ℕ, ◌+◌, ◌≤◌, length, take, drop, ℤ, pos, negsuc}
+use Rattle.std.specs.Prelude.{◌≡◌, List, ℕ, ◌+◌, ◌≤◌, length, take, drop, Result, Ok, Err}
 use Rattle.streams.specs.declared.Input.{Input}
 use Rattle.streams.specs.declared.Input.TheVariants.{Length, Failed}
 
--- a read that answers a number below 0 failed, whatever came
-abbrev pub read_answer : ℤ → ℕ → Input
-read_answer (pos k) came = Length came
-read_answer (negsuc k) came = Failed
+-- a read that answers an error failed
+abbrev pub read_answer : {E : Type 0} → Result ℕ E → Input
+read_answer (Ok came) = Length came
+read_answer (Err e) = Failed
 
 -- one read: bytes come in from place `at` on, as many as are told, and those before and after them are unchanged; a read that failed changes nothing
 abbrev pub Came : Input → ℕ → List ℕ → List ℕ → Type 0

@@ -1,4 +1,6 @@
 // Writers of text: each puts its text into a buffer from a place on, leaves every other byte unchanged, and returns the place after the text. And parts of an input.
+#![tactic(auto)]
+
 ghost use Rattle.std.specs.Prelude.{◌≡◌, [], ◌∷◌, ◌++◌, ◌+◌, ◌*◌, ◌/◌, ◌≤◌, ◌<◌, length, take};
 ghost use Rattle.definitions.specs.Bytes.{byte, two_bytes};
 ghost use Rattle.definitions.specs.Decimal.{digit, decimal};

@@ -1,11 +1,7 @@
 -- `put` meets its contract: the first i bytes are stored.
-use mathlib.Core.Path.{◌≡◌}
-use Prim.Native.Nat.{◌+◌, ◌-◌, ◌≤◌}
 use native.Mathlib.Omega.{arith}
-use lib.ListN.{length, take, length-set}
-use Rattle.text.specs.Put.{Put}
+use lib.ListN.{length-set}
 use Rattle.text.proofs.Puts.{put-turn, put-done}
-use borrow.Author.Rules.{rules}
 use Rattle.text.proofs.put.Goals as goal
 
 pub loop-i-preserved : goal.loop-i-preserved

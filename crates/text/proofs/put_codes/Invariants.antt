@@ -1,9 +1,6 @@
-use mathlib.Core.Path.{refl}
 use Prim.Native.Nat.{◌-◌}
-use native.Mathlib.Omega.{arith}
 use lib.ListN.{length}
-use Rattle.text.proofs.Each.{EachPut, each_begun, each_turn, each-done, code_text, codes_each}
-use borrow.Author.Rules.{rules}
+use Rattle.text.proofs.Each.{EachPut, code_text}
 use Rattle.text.proofs.put_codes.Given as goal
 
 abbrev pub invariant-loop-i : goal.invariant-loop-i

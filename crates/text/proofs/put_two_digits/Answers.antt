@@ -1,6 +1,5 @@
 -- `put_two_digits` meets its contract: one digit after the other.
 use Rattle.text.proofs.Puts.{then}
-use borrow.Author.Rules.{rules}
 use Rattle.text.proofs.put_two_digits.Goals as goal
 
 pub returns : goal.returns
