@@ -9,7 +9,6 @@ use lib.Dec.{T, eqb}
 use borrow.Author.Tests.{eqb-true, eqb-false, eq-eqb, ne_eqb}
 use Rattle.automaton.specs.Machine.{in_one}
 use Rattle.automaton.proofs.Machine.{in_one_cotrans, in_one-sym, in_one_self}
-use Rattle.automaton.specs.Below.{count_below}
 use Rattle.automaton.proofs.Below.{count-below_grows, count-below-some}
 use Rattle.automaton.specs.Labels.{Among, Rooted, own_label, labels, Divides}
 

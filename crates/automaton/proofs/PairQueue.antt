@@ -9,16 +9,16 @@ use native.Mathlib.Omega.{arith}
 use native.Mathlib.Decide.{dec_lt}
 use lib.Dec.{T}
 use Rattle.automaton.specs.History.{History, Earlier, NotLater, Earliest}
-use Rattle.automaton.specs.Machine.{Machine, step, after, Alike, in_one, Distinguishes}
+use Rattle.automaton.specs.Machine.{Machine, step, Alike, in_one, Distinguishes}
 use Rattle.automaton.proofs.Order.{tri, earlier_trans, earlier_append, earlier_code, earlier_longer, not-later-refl, not-later_trans, not-later_append, not-later-code, not-later_longer}
 use Rattle.automaton.proofs.Machine.{step_past, after_append, after-zero, alike_of_not_distinguished}
 use Rattle.automaton.proofs.Below.{below_suc, count-below_le}
 use Rattle.automaton.specs.Parents.{trail, EarlierParents}
 use Rattle.automaton.proofs.Parents.{Stored, trail-start, trail-same, trail-last, falls-stored}
-use Rattle.automaton.specs.Labels.{Among, Rooted, Divides, labels, own_label}
+use Rattle.automaton.specs.Labels.{Among, Rooted, Divides, own_label}
 use Rattle.automaton.proofs.Labels.{Merged, own-rooted, own_undivided, some_label, merge-rooted, merge-fewer, merge-divides}
 use Rattle.automaton.proofs.Separation.{HasStates, Separates, separates_after, states_apart, states-not_apart, told_apart_at}
-use Rattle.automaton.specs.PairQueue.{possible_at, Pair, Queue, pair_at, IsPair, Apart, IsQueue, Done, Search}
+use Rattle.automaton.specs.PairQueue.{possible_at, Pair, Queue, pair_at, IsPair, Apart, Done, Search}
 
 -- the states x and y are put at place m of the queue: code c leads to them from pair i
 pub record Added (m i c x y : ℕ) (old new : Queue) : Type 0 where

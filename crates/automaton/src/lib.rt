@@ -1,4 +1,6 @@
 // The theory of machines: its definitions stand in specs/, its laws in proofs/. The one function here serves every crate that reads bytes.
+#![tactic(auto)]
+
 ghost use Rattle.std.specs.Prelude.{◌≡◌, ◌<◌};
 
 // A byte as an index.

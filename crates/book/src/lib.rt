@@ -1,4 +1,6 @@
 // The bytes of a book: what stands where, and what a state tells of a request. What refuses a book stands in the crate bookcheck.
+#![tactic(auto)]
+
 mod layout;
 mod telling;
 

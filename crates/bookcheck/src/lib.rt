@@ -1,4 +1,6 @@
 // Rows 12 to 14: what refuses a book. Each row has a test of its own; stated in definitions/specs/Refusal.antt (`book_checks`).
+#![tactic(auto)]
+
 ghost use Rattle.std.specs.Prelude.{◌≡◌, ◌+◌, ◌-◌, ◌*◌, ◌≤◌, eqb, length};
 ghost use Rattle.automaton.specs.Below.{all_below, list_below};
 ghost use Rattle.definitions.specs.Book as Book;

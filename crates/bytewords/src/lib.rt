@@ -1,4 +1,6 @@
 // Bytes read eight at a time. The compiler makes one load of a word.
+#![tactic(auto)]
+
 ghost use Rattle.std.specs.Prelude.{◌≡◌, ◌+◌, ◌≤◌, length};
 ghost use Rattle.bytewords.specs.ByteWords.{half_at, word_at, HalfBytes, WordBytes};
 

@@ -1,7 +1,7 @@
 -- Labels from base on: they are their own numbers', from the beginning on and after each merge into a label of the first book.
 use mathlib.Core.Path.{◌≡◌, refl, ap, sym, ◌∙◌}
 use mathlib.Core.Bool.{cond}
-use mathlib.Core.List.{List, map}
+use mathlib.Core.List.{List}
 use Prim.Native.Nat.{ℕ, ◌+◌, ◌≤◌, ◌<◌}
 use native.Mathlib.Omega.{arith}
 use native.Mathlib.Decide.{dec_lt, ℕ_discrete}
@@ -11,7 +11,6 @@ use lib.Seq.{get_or-set_same, get_or-set_other, ext_get_or}
 use borrow.Author.Tests.{eq-eqb, ne_eqb}
 use Rattle.automaton.specs.Below.{list_below}
 use Rattle.automaton.proofs.Below.{length-list-below, get_or-list-below}
-use Rattle.automaton.specs.Labels.{Among}
 use Rattle.automaton.proofs.Labels.{Merged}
 use Rattle.automaton.proofs.WellFormed.{get_or-map-within}
 use Rattle.comparelabels.specs.LabelBytes.{label_at, itself, begun_labels, moved, merged, OwnFrom}

@@ -1,4 +1,6 @@
 // The labels of compare: states of two books that are found to belong together get one label, and rows are read by the labels of their entries.
+#![tactic(auto)]
+
 mod label_bytes;
 mod row_labels;
 

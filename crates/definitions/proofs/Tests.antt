@@ -1,12 +1,12 @@
 -- What the tests of the byte formats mean, when rows that are judged in order refuse nothing, and when the last of them refuses.
 use mathlib.Core.Path.{◌≡◌, refl, sym, ◌∙◌}
-use mathlib.Core.Bool.{Bool, true, false, true≢false, false≢true, not, ◌&&◌}
+use mathlib.Core.Bool.{Bool, true, false, true≢false, false≢true, ◌&&◌}
 use mathlib.Core.Logic.{◌↔◌}
 use mathlib.Core.List.{List}
 use Prim.Native.Nat.{ℕ, zero, suc, ◌≤◌, ◌<◌}
 use native.Mathlib.Omega.{arith}
 use lib.Dec.{leb, eqb, eqb-suc-zero}
-use borrow.Author.Tests.{leb-true, eqb-true, le-leb, eq-eqb, not-true, not-false}
+use borrow.Author.Tests.{leb-true, eqb-true, le-leb, eq-eqb}
 use Rattle.automaton.proofs.Below.{and-true}
 use Rattle.definitions.specs.Answer.{judge, then_judge}
 use Rattle.definitions.specs.Bytes.{byte, has_mark, version, within}

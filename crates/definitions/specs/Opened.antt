@@ -1,12 +1,12 @@
 -- The opened book: "keeps the lent bytes and the state reached so far", tells what is possible for a request, and takes steps.
-use Rattle.std.specs.Prelude.{Bool, cond, true, false, ◌&&◌, List, [], ◌∷◌, ℕ, ltb, eqb}
+use Rattle.std.specs.Prelude.{Bool, cond, ◌&&◌, List, [], ◌∷◌, ℕ, ltb, eqb}
 use Rattle.automaton.specs.History.{History}
 use Rattle.automaton.specs.Machine.{step, is_state}
 use Rattle.definitions.specs.Answer.{judge, then_judge, Answer, answer}
 use Rattle.definitions.specs.Bytes.{within}
 use Rattle.definitions.specs.Book.{requests, width, states, book_machine}
 use Rattle.definitions.specs.Refusal.{book_refusal}
-use Rattle.definitions.specs.Telling.{acceptable, rejectable, Telling, telling}
+use Rattle.definitions.specs.Telling.{Telling, telling}
 
 -- "Opening takes rows 12 to 14 and starts at state 1"
 unfoldable pub open_refusal : List ℕ → ℕ

@@ -1,5 +1,5 @@
 -- The text that the program `shelf` writes for a policy: four lines, or one line with the number of a refusal.
-use Rattle.std.specs.Prelude.{cond, List, [], ◌∷◌, ◌++◌, ℕ, ◌+◌, ◌/◌, ◌%◌, ltb, eqb, length, take}
+use Rattle.std.specs.Prelude.{cond, List, [], ◌∷◌, ◌++◌, ℕ, eqb, length, take}
 use Rattle.std.proofs.Math.Option.{Option, none, some}
 use Rattle.automaton.specs.History.{History}
 use Rattle.definitions.specs.Book.{states}

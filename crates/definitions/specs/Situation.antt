@@ -81,8 +81,8 @@ request_image p r d v = fold_below (rules p) empty_set (with_rule p r d v)
 abbrev pub image : List ℕ → ℕ → ℕ → ℕ
 image p c v =
     let by_an_event = event_image p c v in
-    let by_aRequest = request_image p (request_of (events p) c) (decision_of (events p) c) v in
-    cond (ltb c (events p)) by_an_event by_aRequest
+    let by_a_request = request_image p (request_of (events p) c) (decision_of (events p) c) v in
+    cond (ltb c (events p)) by_an_event by_a_request
 
 -- the valuations that code c leads to from a set: from each of its valuations
 abbrev pub with_image : List ℕ → ℕ → ℕ → ℕ → ℕ → ℕ

@@ -1,12 +1,11 @@
 -- Verdict: three findings "over all histories possible" in a book. Each is the first state in the order of earliest histories that passes a test.
-use Rattle.std.specs.Prelude.{Bool, true, false, not, ◌&&◌, ◌||◌, List, ℕ, leb, length}
+use Rattle.std.specs.Prelude.{Bool, true, false, ◌&&◌, List, ℕ, leb, length}
 use Rattle.std.proofs.Math.Option.{Option, none, some}
-use Rattle.automaton.specs.Below.{any_below, lowest_below}
+use Rattle.automaton.specs.Below.{lowest_below}
 use Rattle.automaton.specs.History.{History}
-use Rattle.automaton.specs.Machine.{Machine, step, is_state}
+use Rattle.automaton.specs.Machine.{Machine}
 use Rattle.automaton.specs.Explore.{Reached, reached, first_that}
 use Rattle.definitions.specs.Answer.{judge, Answer, answer, after_call, history_bytes}
-use Rattle.definitions.specs.Codes.{accept_code, reject_code}
 use Rattle.definitions.specs.Book.{events, requests, book_machine}
 use Rattle.definitions.specs.Refusal.{book_refusal}
 use Rattle.definitions.specs.Telling.{in_conflict, answered, unanswered, some_request}

@@ -6,7 +6,7 @@ use mathlib.Core.Option.{Option, none}
 use Prim.Native.Nat.{ℕ}
 use Rattle.automaton.specs.History.{History}
 use Rattle.definitions.specs.Answer.{written, history_bytes}
-use Rattle.definitions.specs.Verdict.{Found, Findings, findings, found_history, conflict, missing, blocked}
+use Rattle.definitions.specs.Verdict.{Found, findings, found_history, conflict, missing, blocked}
 use Rattle.findings.specs.SoughtRequests.{sought_finding, is_found}
 use Rattle.findings.specs.FindingsOf.{found_of}
 use Rattle.findings.specs.declared.requests.Sought.TheVariants.{Conflict, Missing}

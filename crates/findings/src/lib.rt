@@ -1,5 +1,7 @@
 // The three findings on a book that the checks pass: the states that histories reach, in the order of their earliest history, are searched for the first that
 // passes each test. Stated in definitions/specs/Verdict.antt.
+#![tactic(auto)]
+
 ghost use Rattle.std.specs.Prelude.{◌≡◌, ◌≤◌, length};
 ghost use Rattle.definitions.specs.Answer.{written, history_bytes};
 ghost use Rattle.definitions.specs.Checked.{BookPassed};

@@ -2,7 +2,7 @@
 use mathlib.Core.Path.{◌≡◌, refl, sym, ap, ◌∙◌}
 use mathlib.Core.Bool.{Bool, cond, true, false, ◌&&◌}
 use mathlib.Core.List.{List}
-use Prim.Native.Nat.{ℕ, ◌+◌, ◌-◌, ◌*◌, ◌/◌, ◌%◌, ◌<◌, ◌≤◌}
+use Prim.Native.Nat.{ℕ, ◌+◌, ◌-◌, ◌*◌, ◌<◌, ◌≤◌}
 use native.Mathlib.Nat.{suc-mul}
 use native.Mathlib.Numerals.{add-one}
 use native.Mathlib.Omega.{arith}
@@ -19,16 +19,15 @@ use Rattle.definitions.specs.Policy.{events, variables, rules, requests, width, 
 use Rattle.definitions.specs.Valuation.{valuations, variable_in, by_rule}
 use Rattle.definitions.specs.Situation.{fits, applies, empty_set, insert, with_rule, request_image}
 use Rattle.definitions.specs.Codes.{request_of, decision_of}
-use Rattle.policy.specs.Sized.{Passed}
 use Rattle.rules.specs.Arrays.{entry_of, Tabled}
-use Rattle.rules.specs.RuleSets.{rule_admits, matching, rule_enabled, enabling}
+use Rattle.rules.specs.RuleSets.{rule_admits, rule_enabled, enabling}
 use Rattle.rules.specs.Changes.{Valued}
 use Rattle.rules.proofs.Arrays.{tabled_part}
 use Rattle.rules.proofs.RuleSets.{bit_and_law, bit-passing, passing-below}
 use Rattle.rules.proofs.Values.{enabling-same}
 use Rattle.rules.proofs.Changes.{carried_low}
 use Rattle.images.specs.Choice.{level_at, decision_at, Listed, level_in, with_most, greatest, with_chosen, leading, chosen_for}
-use Rattle.images.specs.Images.{rule_rank, rule_target, event_from, image_from, decided_from, DecidedBy, Prepared, image_entry, ImagesOf}
+use Rattle.images.specs.Images.{rule_target, event_from, image_from, decided_from, DecidedBy, Prepared, image_entry, ImagesOf}
 use Rattle.images.proofs.GreatestLevel.{by_level, seen, top}
 use Rattle.images.proofs.Choices.{leading-idle}
 use Rattle.images.proofs.Targets.{rule_target-same, event_from-same}

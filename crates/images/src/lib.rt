@@ -1,4 +1,6 @@
 // Where every code leads from every valuation, as one table of sets.
+#![tactic(auto)]
+
 mod deciding;
 
 ghost use Rattle.std.specs.Prelude.{◌≡◌, ◌+◌, ◌*◌, ◌<◌, ◌≤◌, length};

@@ -1,4 +1,6 @@
 // Rows 2 to 10 and 17: what a policy file is refused for, stated in definitions/specs/Refusal.antt (`file_checks`).
+#![tactic(auto)]
+
 mod counts;
 mod layout;
 mod masks;

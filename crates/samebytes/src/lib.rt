@@ -1,5 +1,7 @@
 // Equal bytes: of any two byte strings, and of the frames of two books. Strings are read from the front: eight words a turn, then single words, then the single
 // bytes after the last whole word.
+#![tactic(auto)]
+
 ghost use Rattle.std.specs.Prelude.{◌≡◌, ◌↔◌, ◌+◌, ◌≤◌, length};
 ghost use Rattle.automaton.specs.Below.{same_list};
 ghost use Rattle.bytewords.specs.ByteWords.{SamePart};

@@ -1,4 +1,6 @@
 // Breadth-first search over the rows of a table, as those of a book, and the histories that a search keeps.
+#![tactic(auto)]
+
 mod breadth_first;
 mod trail;
 

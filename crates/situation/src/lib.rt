@@ -1,4 +1,6 @@
 // Situations: a set of valuations as the bits of a word.
+#![tactic(auto)]
+
 ghost use Rattle.std.specs.Prelude.{◌≡◌, ◌<◌, eqb};
 ghost use Rattle.definitions.specs.Bytes.{bit};
 ghost use Rattle.definitions.specs.Situation.{empty_set, insert, union, is_empty};

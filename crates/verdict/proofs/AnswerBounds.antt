@@ -16,7 +16,6 @@ use Rattle.findings.specs.declared.finding.Finding.TheVariants as Finding
 use Rattle.findings.specs.declared.finding.Blocked as B
 use Rattle.findings.specs.declared.finding.Blocked.TheVariants as Blocked
 use Rattle.verdict.specs.declared.Judged.{Judged}
-use Rattle.verdict.specs.declared.Judged.TheVariants as Judged
 use Rattle.verdict.proofs.SmallFindings.{SmallFound, given_small}
 
 -- ---- the findings: the number of codes that are read off a buffer is the length of the history

@@ -6,7 +6,6 @@ use Rattle.findings.specs.declared.finding.Blocked as B
 use Rattle.findings.specs.declared.finding.Blocked.TheVariants as Blocked
 use Rattle.findings.specs.declared.Findings.{Findings}
 use Rattle.verdict.specs.declared.Judged.{Judged}
-use Rattle.verdict.specs.declared.Judged.TheVariants as Judged
 
 -- a history of at most so many codes
 abbrev pub BlockedWithin : ℕ → B.Blocked → Type 0

@@ -1,4 +1,6 @@
 // The verdict on a book: three findings over all histories possible in it. Row 1 (the buffers) is decided here; stated in definitions/specs/Verdict.antt.
+#![tactic(auto)]
+
 ghost use Rattle.std.specs.Prelude.{◌≡◌};
 ghost use Rattle.definitions.specs.Verdict.{verdict_refusal, verdict_answer, verdict_buffers};
 ghost use Rattle.verdict.specs.VerdictAnswer.{judged_answer, buffers_after};

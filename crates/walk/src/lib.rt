@@ -1,5 +1,7 @@
 // Walking a book by its bytes and a state: opening, telling, a step. Each call takes rows 12 to 14 again, and then row
 // 16 (the state, the request, the code), which is decided here and stated in definitions/specs/Opened.antt.
+#![tactic(auto)]
+
 ghost use Rattle.std.specs.Prelude.{◌≡◌};
 ghost use Rattle.definitions.specs.Answer.{given};
 ghost use Rattle.definitions.specs.Opened.{state_holds, open_refusal, tell_answer, step_refusal, step_state};

@@ -1,13 +1,8 @@
-use Prim.Native.Nat.{◌+◌, ◌-◌, ◌≤◌}
-use mathlib.Core.Path.{◌≡◌, refl, sym}
+use Prim.Native.Nat.{◌-◌, ◌≤◌}
+use mathlib.Core.Path.{◌≡◌}
 use mathlib.Core.Bool.{true}
-use native.Mathlib.Omega.{arith}
-use borrow.Author.Rules.{rules}
-use borrow.Author.Tests.{le-leb, lt-leb}
 use Rattle.automaton.specs.Below.{all_below}
-use Rattle.definitions.specs.Bytes.{byte}
 use Rattle.bookcheck.specs.Entries.{is_possible}
-use Rattle.automaton.proofs.Loops.{all_more, all-fails}
 use Rattle.bookcheck.proofs.all_possible.Given as goal
 
 abbrev pub invariant-loop-c : goal.invariant-loop-c

@@ -1,10 +1,7 @@
 -- `counts_hold` meets its contract: the counts passed so far hold.
-use Prim.Native.Nat.{◌-◌, ◌≤◌}
 use mathlib.Core.Path.{◌≡◌, refl, sym}
-use mathlib.Core.Bool.{true}
 use native.Mathlib.Omega.{arith}
 use borrow.Author.Rules.{rules}
-use Rattle.automaton.specs.Below.{all_below}
 use Rattle.definitions.specs.Refusal.{count_holds}
 use Rattle.automaton.proofs.Loops.{all_more, all-fails}
 use Rattle.definitions.proofs.Tests.{held, failed}

@@ -3,7 +3,6 @@ use Prim.Native.Nat.{◌-◌, ◌≤◌, ◌<◌}
 use mathlib.Core.Path.{◌∙◌}
 use native.Mathlib.Omega.{arith}
 use lib.ListN.{length}
-use borrow.Author.Rules.{rules}
 use Rattle.definitions.specs.Book.{states}
 use Rattle.bookcheck.specs.Entries.{greatest}
 use Rattle.bookcheck.proofs.Entries.{too_great, none_great}

@@ -1,11 +1,10 @@
 -- `greatest` meets its contract: `most` is the greatest of the entries passed.
-use Prim.Native.Nat.{max, ◌-◌, ◌≤◌}
+use Prim.Native.Nat.{max}
 use mathlib.Core.Path.{◌≡◌, refl, ◌∙◌}
 use native.Mathlib.Omega.{arith}
 use lib.ListN.{length}
 use borrow.Author.Rules.{rules}
 use Rattle.definitions.specs.Bytes.{byte}
-use Rattle.bookcheck.specs.Entries.{greatest}
 use Rattle.bookcheck.proofs.Entries.{greatest_more}
 use Rattle.bookcheck.proofs.greatest.Goals.{then-most-x, else-most-x}
 use Rattle.bookcheck.proofs.greatest.Goals as goal

@@ -1,12 +1,7 @@
-use Prim.Native.Nat.{max, ◌-◌, ◌≤◌}
-use mathlib.Core.Path.{◌≡◌, refl, ◌∙◌}
-use mathlib.Core.Logic.{⊎_elim}
-use native.Mathlib.Omega.{arith}
+use Prim.Native.Nat.{◌-◌, ◌≤◌}
+use mathlib.Core.Path.{◌≡◌}
 use lib.ListN.{length}
-use borrow.Author.Rules.{rules}
-use Rattle.definitions.specs.Bytes.{byte}
 use Rattle.bookcheck.specs.Entries.{greatest}
-use Rattle.bookcheck.proofs.Entries.{greatest_more}
 use Rattle.bookcheck.proofs.greatest.Given as goal
 
 abbrev pub invariant-loop-at : goal.invariant-loop-at

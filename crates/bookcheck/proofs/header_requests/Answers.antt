@@ -1,7 +1,6 @@
 -- `header_requests` meets its contract: one part that fails fails it, and the last comes after all others hold.
 use mathlib.Core.Bool.{and-false}
 use native.Mathlib.Omega.{arith}
-use borrow.Author.Rules.{rules}
 use borrow.Author.Tests.{lt-leb}
 use Rattle.definitions.specs.Bytes.{byte}
 use Rattle.definitions.specs.Book.{requests}

@@ -1,7 +1,6 @@
 -- `is_exact` meets its contract: the size of the rows is small.
 use Prim.Native.Nat.{◌*◌, ◌≤◌}
 use native.Mathlib.Omega.{arith}
-use borrow.Author.Rules.{rules}
 use Rattle.bookcheck.proofs.Checks.{size_fits, exact-is}
 use Rattle.bookcheck.proofs.is_exact.Goals.{After-states}
 use Rattle.bookcheck.proofs.is_exact.Goals as goal

@@ -1,10 +1,7 @@
 -- `is_marked` meets its contract: the bytes passed so far are those of the mark and the version.
-use mathlib.Core.Path.{◌≡◌, refl, sym, ◌∙◌}
-use mathlib.Core.Bool.{true}
-use Prim.Native.Nat.{◌-◌, ◌≤◌}
+use mathlib.Core.Path.{refl, ◌∙◌}
 use native.Mathlib.Omega.{arith}
 use borrow.Author.Tests.{lt-leb, eq-eqb, ne_eqb}
-use Rattle.automaton.specs.Below.{all_below}
 use Rattle.automaton.proofs.Loops.{all_more, all-fails, all_done}
 use Rattle.bookcheck.proofs.Checks.{as_start, marked-is}
 use borrow.Author.Rules.{rules}

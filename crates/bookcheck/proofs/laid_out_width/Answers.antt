@@ -1,7 +1,6 @@
 -- `laid_out_width` meets its contract: the header, then the length.
 use mathlib.Core.Path.{◌≡◌, ◌∙◌}
 use mathlib.Core.Bool.{true}
-use borrow.Author.Rules.{rules}
 use Rattle.definitions.specs.Book.{requests}
 use Rattle.definitions.specs.Refusal.{header_holds}
 use Rattle.definitions.proofs.Accepted.{header-true}

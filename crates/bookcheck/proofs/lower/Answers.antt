@@ -1,13 +1,12 @@
 -- `lower` meets its contract: the bytes passed so far are lowered, the others are as they were.
-use Prim.Native.Nat.{ℕ, min, ◌+◌, ◌-◌, ◌<◌}
+use Prim.Native.Nat.{ℕ, min, ◌+◌, ◌<◌}
 use mathlib.Core.Path.{◌≡◌, ap, ◌∙◌}
 use native.Mathlib.Omega.{arith}
 use lib.ListN.{length}
-use borrow.Author.Rules.{rules}
 use Rattle.automaton.specs.Below.{list_below}
 use Rattle.definitions.specs.Bytes.{byte}
 use Rattle.bookcheck.specs.Entries.{lesser}
-use Rattle.automaton.proofs.FilledList.{FilledUpTo, filled_begun, filled_next, filled_turn, filled_done}
+use Rattle.automaton.proofs.FilledList.{filled_begun, filled_next, filled_turn, filled_done}
 use Rattle.bookcheck.proofs.lower.Goals.{then-x-y, else-x-y}
 use Rattle.bookcheck.proofs.lower.Goals as goal
 

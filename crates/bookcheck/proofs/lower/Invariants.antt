@@ -1,13 +1,6 @@
-use Prim.Native.Nat.{ℕ, min, ◌+◌, ◌-◌, ◌<◌}
-use mathlib.Core.Path.{◌≡◌, ap, ◌∙◌}
-use mathlib.Core.Logic.{⊎_elim}
-use native.Mathlib.Omega.{arith}
-use lib.ListN.{length}
-use borrow.Author.Rules.{rules}
-use Rattle.automaton.specs.Below.{list_below}
-use Rattle.definitions.specs.Bytes.{byte}
+use Prim.Native.Nat.{◌-◌}
 use Rattle.bookcheck.specs.Entries.{lesser}
-use Rattle.automaton.proofs.FilledList.{FilledUpTo, filled_begun, filled_next, filled_turn, filled_done}
+use Rattle.automaton.proofs.FilledList.{FilledUpTo}
 use Rattle.bookcheck.proofs.lower.Given as goal
 
 abbrev pub invariant-loop-c : goal.invariant-loop-c

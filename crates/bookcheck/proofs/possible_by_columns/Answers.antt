@@ -1,5 +1,5 @@
 -- `possible_by_columns` meets its contract: the columns are taken together for the rows passed so far.
-use Prim.Native.Nat.{ℕ, ◌+◌, ◌-◌, ◌*◌, ◌≤◌}
+use Prim.Native.Nat.{ℕ, ◌+◌, ◌*◌, ◌≤◌}
 use mathlib.Core.Path.{◌≡◌, sym, ap, ◌∙◌}
 use native.Mathlib.Omega.{arith}
 use borrow.Author.Rules.{rules}
@@ -8,7 +8,7 @@ use Rattle.automaton.specs.Below.{all_below}
 use Rattle.definitions.specs.Book.{events, states}
 use Rattle.bookcheck.specs.Entries.{is_possible}
 use Rattle.book.proofs.Places.{row_inside}
-use Rattle.bookcheck.proofs.Columns.{Columns, columns_begun, columns_turn, columns_done}
+use Rattle.bookcheck.proofs.Columns.{columns_begun, columns_turn, columns_done}
 use Rattle.bookcheck.proofs.possible_by_columns.Goals.{After-least-1}
 use Rattle.bookcheck.proofs.possible_by_columns.Goals as goal
 

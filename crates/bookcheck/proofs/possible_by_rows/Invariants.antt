@@ -1,15 +1,8 @@
-use Prim.Native.Nat.{◌+◌, ◌-◌, ◌*◌, ◌≤◌}
-use mathlib.Core.Path.{◌≡◌, refl, sym, ◌∙◌}
+use Prim.Native.Nat.{◌-◌, ◌≤◌}
+use mathlib.Core.Path.{◌≡◌}
 use mathlib.Core.Bool.{true}
-use native.Mathlib.Omega.{arith}
-use borrow.Author.Rules.{rules}
-use lib.ListN.{length}
 use Rattle.automaton.specs.Below.{all_below}
-use Rattle.definitions.specs.Book.{states}
-use Rattle.bookcheck.specs.Entries.{is_possible, row_possible}
-use Rattle.automaton.proofs.Loops.{all_more, all-fails}
-use Rattle.definitions.proofs.Tests.{held, failed}
-use Rattle.book.proofs.Places.{row_inside}
+use Rattle.bookcheck.specs.Entries.{row_possible}
 use Rattle.bookcheck.proofs.possible_by_rows.Given as goal
 
 abbrev pub invariant-loop-i : goal.invariant-loop-i

@@ -1,6 +1,5 @@
 -- `refusal` meets its contract: the rows are judged in order.
 use mathlib.Core.Path.{sym}
-use borrow.Author.Rules.{rules}
 use Rattle.definitions.specs.Refusal.{book_checks, book_refusal, layout_holds}
 use Rattle.definitions.proofs.Tests.{held, failed}
 use Rattle.definitions.proofs.CheckLists.{PassedBefore, row_refuses, rows_from_law}

@@ -1,5 +1,5 @@
 -- Parts of policies and books, read off their bytes: numbers of requests, frames, marks, and what is read past an end.
-use Rattle.std.specs.Prelude.{List, [], ◌∷◌, ℕ, set}
+use Rattle.std.specs.Prelude.{List, [], ◌∷◌, set}
 use Rattle.definitions.specs.Bytes.{byte}
 use Rattle.definitions.specs.Policy.{frame, request_number}
 use Rattle.definitions.specs.Refusal.{policy_refusal, book_refusal, row15}

@@ -1,7 +1,7 @@
 -- Policies with several fields, variables and events, and mixed levels: the places at which records are read, the numbers of requests, valuations and codes,
 -- and findings whose requests, codes and histories differ. What they give was computed by the reference.
 use Rattle.std.specs.Prelude.{List, [], ◌∷◌, ◌++◌, ℕ, length}
-use Rattle.std.proofs.Math.Option.{none, some}
+use Rattle.std.proofs.Math.Option.{some}
 use Rattle.definitions.specs.Build.{book_of}
 use Rattle.definitions.specs.Verdict.{Findings, findings, verdict_buffers}
 use Rattle.definitions.specs.Shelf.{shelf_text}

@@ -1,6 +1,6 @@
 -- Request 2: files of version 2 with their starting values. What the request does not say was computed by the reference.
 use Rattle.std.specs.Prelude.{List, [], ◌∷◌, ◌++◌, ℕ, length, set, take, replicate}
-use Rattle.std.proofs.Math.Option.{none, some}
+use Rattle.std.proofs.Math.Option.{some}
 use Rattle.definitions.specs.Book.{concat}
 use Rattle.definitions.specs.Valuation.{start_valuation}
 use Rattle.definitions.specs.Refusal.{policy_refusal, situations}

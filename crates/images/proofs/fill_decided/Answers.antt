@@ -1,6 +1,5 @@
 -- `images::fill_decided` meets its contract.
 use native.Mathlib.Omega.{arith}
-use borrow.Author.Rules.{rules}
 use Rattle.images.proofs.ImageRows.{rules_listed, row_decided}
 use Rattle.images.proofs.fill_decided.Goals as goal
 

@@ -1,16 +1,7 @@
-use mathlib.Core.Path.{ap, ◌∙◌}
-use Prim.Native.Nat.{ℕ, ◌≤◌, ◌<◌, ◌-◌}
-use native.Mathlib.Omega.{arith}
-use lib.ListN.{length}
-use borrow.Author.Rules.{rules}
-use Rattle.automaton.proofs.FilledList.{FilledUpTo, filled_begun, filled_turn}
-use Rattle.automaton.proofs.Loops.{row_within}
-use Rattle.definitions.specs.Policy.{events}
-use Rattle.definitions.specs.Situation.{empty_set, insert}
+use Prim.Native.Nat.{◌≤◌, ◌-◌}
+use Rattle.automaton.proofs.FilledList.{FilledUpTo}
 use Rattle.rules.specs.Arrays.{entry_of}
-use Rattle.rules.proofs.Arrays.{filled_tabled}
 use Rattle.images.specs.Images.{event_from}
-use Rattle.images.proofs.Targets.{event_changes, event_target}
 use Rattle.images.proofs.fill_events.Given as goal
 
 abbrev pub invariant-loop-e : goal.invariant-loop-e

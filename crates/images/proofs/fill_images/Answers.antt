@@ -2,7 +2,6 @@
 use mathlib.Core.Path.{◌≡◌, sym, ap, ◌∙◌}
 use native.Mathlib.Omega.{arith}
 use lib.Seq.{length-take-le}
-use borrow.Author.Rules.{rules}
 use Rattle.definitions.specs.Policy.{requests}
 use Rattle.policy.specs.declared.shape.Shape.{Shape}
 use Rattle.rules.specs.RuleSets.{matching}

@@ -1,12 +1,9 @@
 -- `images::fill_ranks` meets its contract. The loop's invariant: the first k entries are filled.
-use mathlib.Core.Path.{◌≡◌}
-use Prim.Native.Nat.{◌≤◌, ◌-◌}
 use native.Mathlib.Omega.{arith}
 use borrow.Author.Rules.{rules as author_rules}
-use Rattle.automaton.proofs.FilledList.{FilledUpTo, filled_begun, filled_turn}
+use Rattle.automaton.proofs.FilledList.{filled_begun, filled_turn}
 use Rattle.definitions.specs.Policy.{rules}
 use Rattle.rules.proofs.Arrays.{filled_tabled}
-use Rattle.images.specs.Images.{rule_rank}
 use Rattle.images.proofs.fill_ranks.Goals as goal
 
 pub loop-k-init : goal.loop-k-init

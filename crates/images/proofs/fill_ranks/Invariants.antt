@@ -1,9 +1,5 @@
-use mathlib.Core.Path.{◌≡◌}
 use Prim.Native.Nat.{◌≤◌, ◌-◌}
-use native.Mathlib.Omega.{arith}
-use Rattle.automaton.proofs.FilledList.{FilledUpTo, filled_begun, filled_turn}
-use Rattle.definitions.specs.Policy.{rules}
-use Rattle.rules.proofs.Arrays.{filled_tabled}
+use Rattle.automaton.proofs.FilledList.{FilledUpTo}
 use Rattle.images.specs.Images.{rule_rank}
 use Rattle.images.proofs.fill_ranks.Given as goal
 

@@ -2,7 +2,6 @@
 use native.Mathlib.Omega.{arith}
 use lib.ListN.{length-drop}
 use Rattle.automaton.proofs.Loops.{part_is-drop}
-use borrow.Author.Rules.{rules}
 use Rattle.rules.proofs.Changes.{valued}
 use Rattle.images.proofs.ImageRows.{row_imaged}
 use Rattle.images.proofs.fill_row.Goals as goal

@@ -10,7 +10,6 @@ use Rattle.automaton.proofs.Loops.{part_is-drop, row_within}
 use Rattle.definitions.specs.Policy.{width}
 use Rattle.definitions.specs.Valuation.{valuations}
 use Rattle.policy.specs.declared.shape.Shape.{Shape}
-use Rattle.rules.specs.Arrays.{Tabled}
 use Rattle.rules.proofs.Arrays.{tabled-none}
 use Rattle.images.specs.Images.{image_entry}
 use Rattle.images.proofs.ImageRows.{rows_more}

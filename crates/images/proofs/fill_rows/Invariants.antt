@@ -1,18 +1,8 @@
-use mathlib.Core.Path.{◌≡◌, refl, ap, ◌∙◌}
-use Prim.Native.Nat.{◌≤◌, ◌-◌, ◌+◌, ◌*◌}
-use native.Mathlib.Omega.{arith}
-use native.Mathlib.Nat.{zero-mul}
-use lib.ListN.{length, length-drop}
-use borrow.Author.Rules.{rules}
-use borrow.Rule.Slice.PartMut.{same_len_mid}
-use Rattle.automaton.proofs.Loops.{part_is-drop, row_within}
-use Rattle.definitions.specs.Policy.{width}
-use Rattle.definitions.specs.Valuation.{valuations}
-use Rattle.policy.specs.declared.shape.Shape.{Shape}
+use mathlib.Core.Path.{◌≡◌}
+use Prim.Native.Nat.{◌≤◌, ◌-◌, ◌*◌}
+use lib.ListN.{length}
 use Rattle.rules.specs.Arrays.{Tabled}
-use Rattle.rules.proofs.Arrays.{tabled-none}
 use Rattle.images.specs.Images.{image_entry}
-use Rattle.images.proofs.ImageRows.{rows_more}
 use Rattle.images.proofs.fill_rows.Given as goal
 
 abbrev pub invariant-loop-v : goal.invariant-loop-v

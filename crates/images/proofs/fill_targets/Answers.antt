@@ -1,12 +1,10 @@
 -- `images::fill_targets` meets its contract. The loop's invariant: the first k entries are filled.
-use Prim.Native.Nat.{◌≤◌, ◌-◌}
 use native.Mathlib.Omega.{arith}
 use borrow.Author.Rules.{rules as author_rules}
-use Rattle.automaton.proofs.FilledList.{FilledUpTo, filled_begun, filled_turn}
+use Rattle.automaton.proofs.FilledList.{filled_begun, filled_turn}
 use Rattle.definitions.specs.Policy.{rules}
 use Rattle.rules.specs.Arrays.{entry_of}
 use Rattle.rules.proofs.Arrays.{filled_tabled}
-use Rattle.images.specs.Images.{rule_target}
 use Rattle.images.proofs.Targets.{rule-changes, rule_target_law}
 use Rattle.images.proofs.fill_targets.Goals as goal
 

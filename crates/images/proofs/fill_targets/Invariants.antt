@@ -1,11 +1,7 @@
 use Prim.Native.Nat.{◌≤◌, ◌-◌}
-use native.Mathlib.Omega.{arith}
-use Rattle.automaton.proofs.FilledList.{FilledUpTo, filled_begun, filled_turn}
-use Rattle.definitions.specs.Policy.{rules}
+use Rattle.automaton.proofs.FilledList.{FilledUpTo}
 use Rattle.rules.specs.Arrays.{entry_of}
-use Rattle.rules.proofs.Arrays.{filled_tabled}
 use Rattle.images.specs.Images.{rule_target}
-use Rattle.images.proofs.Targets.{rule-changes, rule_target_law}
 use Rattle.images.proofs.fill_targets.Given as goal
 
 abbrev pub invariant-loop-k : goal.invariant-loop-k

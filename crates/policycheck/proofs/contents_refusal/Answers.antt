@@ -1,6 +1,5 @@
 -- `contents_refusal` meets its contract: the rows are judged in order.
 use mathlib.Core.Path.{sym}
-use borrow.Author.Rules.{rules}
 use Rattle.definitions.specs.Refusal.{content_checks}
 use Rattle.definitions.proofs.Tests.{failed, held}
 use Rattle.definitions.proofs.CheckLists.{PassedBefore, row_refuses, rows_from_law}

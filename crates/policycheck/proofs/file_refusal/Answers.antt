@@ -1,7 +1,6 @@
 -- `file_refusal` meets its contract: the rows are judged in order.
 use mathlib.Core.Path.{sym, ◌∙◌}
 use borrow.Author.Tests.{le-leb, lt-leb}
-use borrow.Author.Rules.{rules}
 use Rattle.definitions.specs.Refusal.{file_checks, file_refusal}
 use Rattle.definitions.proofs.Tests.{failed, held}
 use Rattle.definitions.proofs.CheckLists.{PassedBefore, row_refuses, rows_from_law}

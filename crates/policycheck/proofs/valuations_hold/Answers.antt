@@ -1,5 +1,4 @@
 -- `valuations_hold` meets its contract.
-use borrow.Author.Rules.{rules}
 use Rattle.policycheck.proofs.valuations_hold.Goals as goal
 
 pub returns : goal.returns

@@ -1,9 +1,7 @@
 -- `same_bytes` meets its contract: the words passed so far are equal.
 use mathlib.Core.Path.{ap}
-use Prim.Native.Nat.{◌-◌}
 use native.Mathlib.Omega.{arith}
 use lib.ListN.{length}
-use Rattle.samebytes.specs.SameBytes.{SameSoFar}
 use Rattle.automaton.proofs.Below.{same-list_no}
 use Rattle.samebytes.proofs.SameBytes.{nothing_read, more_read, part_differs, all_read}
 use borrow.Author.Rules.{rules}

@@ -1,11 +1,6 @@
-use mathlib.Core.Path.{ap}
 use Prim.Native.Nat.{◌-◌}
-use native.Mathlib.Omega.{arith}
 use lib.ListN.{length}
 use Rattle.samebytes.specs.SameBytes.{SameSoFar}
-use Rattle.automaton.proofs.Below.{same-list_no}
-use Rattle.samebytes.proofs.SameBytes.{nothing_read, more_read, part_differs, all_read}
-use borrow.Author.Rules.{rules}
 use Rattle.samebytes.proofs.same_bytes.Given as goal
 
 abbrev pub invariant-loop-k : goal.invariant-loop-k

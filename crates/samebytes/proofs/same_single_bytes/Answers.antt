@@ -1,11 +1,7 @@
 -- `same_single_bytes` meets its contract: the bytes passed so far are equal.
-use Prim.Native.Nat.{◌-◌}
 use native.Mathlib.Omega.{arith}
-use lib.ListN.{length}
 use Rattle.bytewords.proofs.ByteWords.{part_of_one}
-use Rattle.samebytes.specs.SameBytes.{SameSoFar}
 use Rattle.samebytes.proofs.SameBytes.{more_read, part_differs, all_read}
-use borrow.Author.Rules.{rules}
 use Rattle.samebytes.proofs.same_single_bytes.Goals as goal
 
 pub loop-k-init : goal.loop-k-init

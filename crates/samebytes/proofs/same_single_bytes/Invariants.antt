@@ -1,10 +1,6 @@
 use Prim.Native.Nat.{◌-◌}
-use native.Mathlib.Omega.{arith}
 use lib.ListN.{length}
-use Rattle.bytewords.proofs.ByteWords.{part_of_one}
 use Rattle.samebytes.specs.SameBytes.{SameSoFar}
-use Rattle.samebytes.proofs.SameBytes.{more_read, part_differs, all_read}
-use borrow.Author.Rules.{rules}
 use Rattle.samebytes.proofs.same_single_bytes.Given as goal
 
 abbrev pub invariant-loop-k : goal.invariant-loop-k

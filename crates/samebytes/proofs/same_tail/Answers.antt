@@ -1,7 +1,6 @@
 -- `same_tail` meets its contract.
 use native.Mathlib.Omega.{arith}
 use Rattle.samebytes.proofs.SameBytes.{more_read, part_differs}
-use borrow.Author.Rules.{rules}
 use Rattle.samebytes.proofs.same_tail.Goals as goal
 
 pub returns-then-byte_differences-ne0 : goal.returns-then-byte_differences-ne0

@@ -1,11 +1,7 @@
 -- `same_words` meets its contract: the words passed so far are equal.
-use Prim.Native.Nat.{◌-◌}
 use native.Mathlib.Omega.{arith}
-use lib.ListN.{length}
 use Rattle.bytewords.proofs.ByteWords.{words-equal}
-use Rattle.samebytes.specs.SameBytes.{SameSoFar}
 use Rattle.samebytes.proofs.SameBytes.{more_read, part_differs}
-use borrow.Author.Rules.{rules}
 use Rattle.samebytes.proofs.same_words.Goals as goal
 
 pub loop-k-init : goal.loop-k-init

@@ -1,10 +1,6 @@
 use Prim.Native.Nat.{◌-◌}
-use native.Mathlib.Omega.{arith}
 use lib.ListN.{length}
-use Rattle.bytewords.proofs.ByteWords.{words-equal}
 use Rattle.samebytes.specs.SameBytes.{SameSoFar}
-use Rattle.samebytes.proofs.SameBytes.{more_read, part_differs}
-use borrow.Author.Rules.{rules}
 use Rattle.samebytes.proofs.same_words.Given as goal
 
 abbrev pub invariant-loop-k : goal.invariant-loop-k

@@ -1,11 +1,10 @@
 -- `word_differences` meets its contract: what is gathered after n bytes is 0 exactly when these are equal.
 use mathlib.Core.Path.{◌≡◌, refl}
 use mathlib.Core.Logic.{◌↔◌}
-use Prim.Native.Nat.{◌+◌, ◌-◌, ◌%◌, ◌≤◌}
+use Prim.Native.Nat.{◌+◌}
 use native.Mathlib.Omega.{arith}
 use Rattle.bytewords.specs.ByteWords.{SamePart}
 use Rattle.bytewords.proofs.ByteWords.{words-equal, gathered_more}
-use borrow.Author.Rules.{rules}
 use Rattle.samebytes.proofs.word_differences.Goals as goal
 
 pub loop-n-init : goal.loop-n-init

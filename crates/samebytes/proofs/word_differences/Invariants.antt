@@ -1,10 +1,7 @@
-use mathlib.Core.Path.{◌≡◌, refl}
+use mathlib.Core.Path.{◌≡◌}
 use mathlib.Core.Logic.{◌↔◌}
-use Prim.Native.Nat.{◌+◌, ◌-◌, ◌%◌, ◌≤◌}
-use native.Mathlib.Omega.{arith}
+use Prim.Native.Nat.{◌-◌, ◌%◌, ◌≤◌}
 use Rattle.bytewords.specs.ByteWords.{SamePart}
-use Rattle.bytewords.proofs.ByteWords.{words-equal, gathered_more}
-use borrow.Author.Rules.{rules}
 use Rattle.samebytes.proofs.word_differences.Given as goal
 
 abbrev pub invariant-loop-n : goal.invariant-loop-n

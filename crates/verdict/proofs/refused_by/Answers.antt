@@ -1,7 +1,6 @@
 -- `refused_by` meets its contract: the rows are judged in their order.
 use mathlib.Core.Path.{◌∙◌}
 use Rattle.verdict.proofs.VerdictAnswer.{short-conflict, short-missing, short-blocked, by-book}
-use borrow.Author.Rules.{rules}
 use Rattle.verdict.proofs.refused_by.Goals as goal
 
 pub returns-then-conflict-lt128 : goal.returns-then-conflict-lt128

@@ -1,5 +1,4 @@
 -- `open` meets its contract.
-use borrow.Author.Rules.{rules}
 use Rattle.walk.proofs.CallCases.{open_refused, open_starts}
 use Rattle.walk.proofs.open.Goals as goal
 

@@ -1,5 +1,4 @@
 -- `state_holds` meets its contract.
-use borrow.Author.Rules.{rules}
 use borrow.Author.Tests.{le-leb, lt-leb}
 use Rattle.walk.proofs.state_holds.Goals as goal
 

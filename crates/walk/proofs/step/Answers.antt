@@ -3,7 +3,6 @@ use mathlib.Core.Path.{◌≡◌, sym, ap, ◌∙◌}
 use mathlib.Core.Bool.{and-false}
 use Prim.Native.Nat.{◌≤◌}
 use native.Mathlib.Omega.{arith}
-use borrow.Author.Rules.{rules}
 use borrow.Author.Tests.{le-ltb}
 use Rattle.automaton.specs.Machine.{step, is_state}
 use Rattle.definitions.specs.Book.{width, states, book_machine}
@@ -49,7 +48,7 @@ returns-then-w-code c =
     step-outside a.book.now a.state a.code (passes (goal.at.returns-then-w-code c).Else-number-ne0) (simp (le-ltb a.code (width a.book.now) (omega arith), and-false))
 
 pub entry-there-requires : goal.entry-there-requires
-entry-there-requires c = record { book_layout = ((book-passed c.args.book.now).0 (passes (goal.at.entry-there-requires c).Else-number-ne0)).layout; width_value = (c.width-w.ensures, c.if-w-code.false); le_s = is_state_law (goal.at.entry-there-requires c).Else-not-state_holds; }
+entry-there-requires c = record { book_layout = ((book-passed c.args.book.now).0 (passes (goal.at.entry-there-requires c).Else-number-ne0)).layout; width_value = (c.width-w.ensures, c.if-w-code.false); le_s = is_state_law (goal.at.entry-there-requires c).Else-not-state_holds }
 
 pub returns-then-there-eq0 : goal.returns-then-there-eq0
 returns-then-there-eq0 c =

@@ -2,7 +2,6 @@
 use mathlib.Core.Path.{◌≡◌, sym, ap, ◌∙◌}
 use mathlib.Core.Bool.{and-false, true}
 use native.Mathlib.Omega.{arith}
-use borrow.Author.Rules.{rules}
 use borrow.Author.Tests.{le-ltb}
 use Rattle.definitions.specs.Answer.{given}
 use Rattle.definitions.specs.Checked.{BookLayout}
@@ -51,7 +50,7 @@ width-requires c = laid (goal.at.width-requires c).Else-number-ne0
 pub telling_at-requires : goal.telling_at-requires
 telling_at-requires c =
     let a = c.args in
-    let some = (within-true 1 a.state (states a.book.now)).0 (is_state_law (goal.at.telling_at-requires c).Else-not-state_holds) in record { book_layout = (laid (goal.at.telling_at-requires c).Else-number-ne0, c.width.ensures); le_state = (some.0, some.1, omega (arith, c.if-requests-request.false, c.requests.ensures)); }
+    let some = (within-true 1 a.state (states a.book.now)).0 (is_state_law (goal.at.telling_at-requires c).Else-not-state_holds) in record { book_layout = (laid (goal.at.telling_at-requires c).Else-number-ne0, c.width.ensures); le_state = (some.0, some.1, omega (arith, c.if-requests-request.false, c.requests.ensures)) }
 
 pub returns : goal.returns
 returns c =

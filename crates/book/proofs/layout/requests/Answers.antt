@@ -1,11 +1,10 @@
 -- `requests` meets its contract: after f turns the product is that of the first f counts.
-use Prim.Native.Nat.{◌-◌, ◌≤◌}
 use native.Mathlib.Omega.{arith}
 use mathlib.Core.Path.{◌≡◌}
 use borrow.Author.Rules.{rules}
 use Rattle.definitions.specs.Bytes.{byte}
 use Rattle.definitions.specs.Book.{count}
-use Rattle.definitions.proofs.Products.{Multiplied, multiplied_none, multiplied_more, next_fits}
+use Rattle.definitions.proofs.Products.{multiplied_none, multiplied_more, next_fits}
 use Rattle.book.proofs.layout.requests.Goals as goal
 
 pub loop-f-init : goal.loop-f-init

@@ -1,10 +1,6 @@
 use Prim.Native.Nat.{◌-◌, ◌≤◌}
-use native.Mathlib.Omega.{arith}
-use mathlib.Core.Path.{◌≡◌}
-use borrow.Author.Rules.{rules}
-use Rattle.definitions.specs.Bytes.{byte}
 use Rattle.definitions.specs.Book.{count}
-use Rattle.definitions.proofs.Products.{Multiplied, multiplied_none, multiplied_more, next_fits}
+use Rattle.definitions.proofs.Products.{Multiplied}
 use Rattle.book.proofs.layout.requests.Given as goal
 
 abbrev pub invariant-loop-f : goal.invariant-loop-f

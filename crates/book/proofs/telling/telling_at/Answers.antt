@@ -2,7 +2,6 @@
 use mathlib.Core.Path.{◌∙◌}
 use Prim.Native.Nat.{◌+◌, ◌*◌, ◌<◌}
 use native.Mathlib.Omega.{arith}
-use borrow.Author.Rules.{rules}
 use Rattle.book.proofs.Tellings.{telling-by}
 use Rattle.book.proofs.telling.telling_at.Goals.{After-events}
 use Rattle.book.proofs.telling.telling_at.Goals as goal
@@ -21,13 +20,13 @@ pub overflow_add-code : goal.overflow_add-code
 overflow_add-code c = omega (arith, low c, c.requires.book_layout.1, c.requires.book_layout.0.header.width_most)
 
 pub entry-accept-requires : goal.entry-accept-requires
-entry-accept-requires c = let p = c.requires in record { book_layout = p.book_layout.0; width_value = (p.book_layout.1, omega (arith, low c)); le_s = (p.le_state.0, p.le_state.1); }
+entry-accept-requires c = let p = c.requires in record { book_layout = p.book_layout.0; width_value = (p.book_layout.1, omega (arith, low c)); le_s = (p.le_state.0, p.le_state.1) }
 
 pub overflow_add-code-2 : goal.overflow_add-code-2
 overflow_add-code-2 c = omega (arith, low (goal.at.overflow_add-code-2 c).After-events, c.requires.book_layout.1, c.requires.book_layout.0.header.width_most)
 
 pub entry-reject-requires : goal.entry-reject-requires
-entry-reject-requires c = let p = c.requires in record { book_layout = p.book_layout.0; width_value = (p.book_layout.1, low (goal.at.entry-reject-requires c).After-events); le_s = (p.le_state.0, p.le_state.1); }
+entry-reject-requires c = let p = c.requires in record { book_layout = p.book_layout.0; width_value = (p.book_layout.1, low (goal.at.entry-reject-requires c).After-events); le_s = (p.le_state.0, p.le_state.1) }
 
 pub returns : goal.returns
 returns c =

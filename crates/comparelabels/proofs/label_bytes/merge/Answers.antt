@@ -1,7 +1,6 @@
 -- `merge` meets its contract: where one number has the label, one store moves it.
 use native.Mathlib.Omega.{arith}
 use Rattle.comparelabels.proofs.LabelBytes.{alone}
-use borrow.Author.Rules.{rules}
 use Rattle.comparelabels.proofs.label_bytes.merge.Goals as goal
 
 pub returns-then-base-wide : goal.returns-then-base-wide

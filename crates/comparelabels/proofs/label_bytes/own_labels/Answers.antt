@@ -1,11 +1,8 @@
 -- `own_labels` meets its contract: the labels below u are filled with their own numbers.
-use Prim.Native.Nat.{◌-◌}
 use native.Mathlib.Omega.{arith}
 use mathlib.Core.Path.{refl}
-use lib.ListN.{length}
 use Rattle.comparelabels.specs.LabelBytes.{itself}
-use Rattle.automaton.proofs.FilledList.{FilledUpTo, filled_begun, filled_turn, filled_done}
-use borrow.Author.Rules.{rules}
+use Rattle.automaton.proofs.FilledList.{filled_begun, filled_turn, filled_done}
 use Rattle.comparelabels.proofs.label_bytes.own_labels.Goals as goal
 
 pub loop-u-init : goal.loop-u-init

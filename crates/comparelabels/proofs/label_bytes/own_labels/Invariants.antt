@@ -1,10 +1,7 @@
 use Prim.Native.Nat.{◌-◌}
-use native.Mathlib.Omega.{arith}
-use mathlib.Core.Path.{refl}
 use lib.ListN.{length}
 use Rattle.comparelabels.specs.LabelBytes.{itself}
-use Rattle.automaton.proofs.FilledList.{FilledUpTo, filled_begun, filled_turn, filled_done}
-use borrow.Author.Rules.{rules}
+use Rattle.automaton.proofs.FilledList.{FilledUpTo}
 use Rattle.comparelabels.proofs.label_bytes.own_labels.Given as goal
 
 abbrev pub invariant-loop-u : goal.invariant-loop-u

@@ -1,11 +1,8 @@
 -- `relabel` meets its contract: the labels below u are moved, the others are as they were.
-use Prim.Native.Nat.{◌-◌}
 use native.Mathlib.Omega.{arith}
 use mathlib.Core.Path.{ap, ◌∙◌}
-use lib.ListN.{length}
 use Rattle.comparelabels.specs.LabelBytes.{moved}
-use Rattle.automaton.proofs.FilledList.{FilledUpTo, elsewhere, filled_begun, filled_next, filled_turn, filled_done, map_below}
-use borrow.Author.Rules.{rules}
+use Rattle.automaton.proofs.FilledList.{filled_begun, filled_next, filled_turn, filled_done, map_below}
 use Rattle.comparelabels.proofs.label_bytes.relabel.Goals as goal
 
 pub loop-u-init : goal.loop-u-init

@@ -1,10 +1,7 @@
 use Prim.Native.Nat.{◌-◌}
-use native.Mathlib.Omega.{arith}
-use mathlib.Core.Path.{ap, ◌∙◌}
 use lib.ListN.{length}
 use Rattle.comparelabels.specs.LabelBytes.{moved}
-use Rattle.automaton.proofs.FilledList.{FilledUpTo, elsewhere, filled_begun, filled_next, filled_turn, filled_done, map_below}
-use borrow.Author.Rules.{rules}
+use Rattle.automaton.proofs.FilledList.{FilledUpTo, elsewhere}
 use Rattle.comparelabels.proofs.label_bytes.relabel.Given as goal
 
 abbrev pub invariant-loop-u : goal.invariant-loop-u

@@ -1,10 +1,8 @@
 use Prim.Native.Nat.{◌-◌, ◌≤◌}
-use native.Mathlib.Omega.{arith}
 use lib.ListN.{length}
 use Rattle.comparelabels.specs.LabelBytes.{label_at}
 use Rattle.comparelabels.specs.RowLabels.{SameLabel}
-use Rattle.comparelabels.proofs.FirstFailing.{Throughout, fails-later, fails-in-part, fails-after}
-use borrow.Author.Rules.{rules}
+use Rattle.comparelabels.proofs.FirstFailing.{Throughout}
 use Rattle.comparelabels.proofs.row_labels.first_unlike.Given as goal
 
 abbrev pub invariant-loop-k : goal.invariant-loop-k

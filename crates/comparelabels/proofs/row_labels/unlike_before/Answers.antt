@@ -1,10 +1,7 @@
 -- `unlike_before` meets its contract: the labels are the same at each place before k.
 use mathlib.Core.Path.{◌≡◌}
-use Prim.Native.Nat.{◌-◌, ◌≤◌}
 use native.Mathlib.Omega.{arith}
-use Rattle.comparelabels.specs.RowLabels.{SameLabel}
-use Rattle.comparelabels.proofs.FirstFailing.{Throughout, through_one, fails-here, fails-nowhere}
-use borrow.Author.Rules.{rules}
+use Rattle.comparelabels.proofs.FirstFailing.{through_one, fails-here, fails-nowhere}
 use Rattle.comparelabels.proofs.row_labels.unlike_before.Goals as goal
 
 pub loop-k-init : goal.loop-k-init

@@ -1,9 +1,6 @@
-use mathlib.Core.Path.{◌≡◌}
 use Prim.Native.Nat.{◌-◌, ◌≤◌}
-use native.Mathlib.Omega.{arith}
 use Rattle.comparelabels.specs.RowLabels.{SameLabel}
-use Rattle.comparelabels.proofs.FirstFailing.{Throughout, through_one, fails-here, fails-nowhere}
-use borrow.Author.Rules.{rules}
+use Rattle.comparelabels.proofs.FirstFailing.{Throughout}
 use Rattle.comparelabels.proofs.row_labels.unlike_before.Given as goal
 
 abbrev pub invariant-loop-k : goal.invariant-loop-k

@@ -2,7 +2,6 @@
 use mathlib.Core.Path.{sym, ◌∙◌}
 use native.Mathlib.Omega.{arith}
 use Rattle.comparelabels.proofs.RowLabels.{zeros_alike}
-use borrow.Author.Rules.{rules}
 use Rattle.comparelabels.proofs.row_labels.unlike_of_eight.Goals as goal
 
 pub returns-then-word-eq0-2 : goal.returns-then-word-eq0-2

@@ -1,14 +1,14 @@
 -- `first_unmarked` meets its contract: the states at the places below i are marked.
 use mathlib.Core.Path.{◌≡◌, ap}
 use mathlib.Core.Bool.{not}
-use Prim.Native.Nat.{ℕ, ◌-◌, ◌≤◌}
+use Prim.Native.Nat.{ℕ}
 use native.Mathlib.Omega.{arith}
 use borrow.Author.Count.{below_more}
 use Rattle.automaton.specs.Machine.{is_state}
 use Rattle.definitions.specs.Bytes.{byte}
 use Rattle.definitions.proofs.BookSteps.{is_state_law}
 use Rattle.findings.specs.Marks.{unmarked_at}
-use Rattle.findings.proofs.LowestBelow.{NoneBelow, lowest_hit, lowest-end}
+use Rattle.findings.proofs.LowestBelow.{lowest_hit, lowest-end}
 use borrow.Author.Rules.{rules}
 use Rattle.findings.proofs.finding.first_unmarked.Goals as goal
 

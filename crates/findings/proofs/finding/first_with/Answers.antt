@@ -1,10 +1,9 @@
 -- `first_with` meets its contract: the states at the places below k have no request that is sought.
-use Prim.Native.Nat.{◌-◌, ◌≤◌}
 use native.Mathlib.Omega.{arith}
 use borrow.Author.Count.{below_more}
 use Rattle.definitions.specs.Bytes.{byte}
 use Rattle.findings.specs.SoughtRequests.{some_at}
-use Rattle.findings.proofs.LowestBelow.{NoneBelow, lowest_hit, lowest-end}
+use Rattle.findings.proofs.LowestBelow.{lowest_hit, lowest-end}
 use Rattle.findings.proofs.SoughtRequests.{some_sought, none_sought, is_hit, no_hit}
 use borrow.Author.Rules.{rules}
 use Rattle.findings.proofs.finding.first_with.Goals as goal
@@ -14,7 +13,7 @@ loop-k-init c = (search rules, λ j l. absurd (omega arith))
 
 pub lowest-request-requires : goal.lowest-request-requires
 lowest-request-requires c =
-    let inside = c.requires.3 c.loop-k.k c.loop-k-test.true in record { book_passed = (c.requires.0, c.requires.1); le_state = omega (arith, c.wide.ensures, inside); }
+    let inside = c.requires.3 c.loop-k.k c.loop-k-test.true in record { book_passed = (c.requires.0, c.requires.1); le_state = omega (arith, c.wide.ensures, inside) }
 
 pub returns-then-request-requests : goal.returns-then-request-requests
 returns-then-request-requests c =

@@ -3,7 +3,6 @@ use mathlib.Core.Path.{refl, sym, ap}
 use Rattle.automaton.specs.Below.{one}
 use Rattle.findings.specs.declared.requests.Sought.TheVariants.{Answer}
 use Rattle.findings.proofs.SoughtRequests.{some_sought, none_sought}
-use borrow.Author.Rules.{rules}
 use Rattle.findings.proofs.marks.answers.Goals as goal
 
 pub returns-then-lowest-requests : goal.returns-then-lowest-requests

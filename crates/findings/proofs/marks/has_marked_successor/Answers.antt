@@ -1,7 +1,6 @@
 -- `has_marked_successor` meets its contract: the events below c lead to states that are not marked.
 use mathlib.Core.Path.{◌≡◌, sym, ap}
 use mathlib.Core.Bool.{true, false}
-use Prim.Native.Nat.{◌-◌, ◌≤◌}
 use native.Mathlib.Omega.{arith}
 use borrow.Author.Count.{below_more}
 use Rattle.automaton.specs.Machine.{is_state}
@@ -9,7 +8,7 @@ use Rattle.automaton.proofs.Below.{any_below_law}
 use Rattle.definitions.specs.Bytes.{byte}
 use Rattle.definitions.proofs.BookSteps.{is_state_law}
 use Rattle.findings.specs.Marks.{marked_successor}
-use Rattle.findings.proofs.LowestBelow.{NoneBelow, any_end}
+use Rattle.findings.proofs.LowestBelow.{any_end}
 use borrow.Author.Rules.{rules}
 use Rattle.findings.proofs.marks.has_marked_successor.Goals as goal
 
@@ -20,7 +19,7 @@ pub loop-c-init : goal.loop-c-init
 loop-c-init c = (search rules, λ j l. absurd (omega arith))
 
 pub entry-requires : goal.entry-requires
-entry-requires c = record { book_layout = c.requires.book_passed.0.layout; width_value = (c.requires.book_passed.1, omega (arith, c.requires.book_passed.1, c.events-e.ensures, c.loop-c-test.true)); le_s = c.requires.le_state; }
+entry-requires c = record { book_layout = c.requires.book_passed.0.layout; width_value = (c.requires.book_passed.1, omega (arith, c.requires.book_passed.1, c.events-e.ensures, c.loop-c-test.true)); le_s = c.requires.le_state }
 
 pub bounds-marks-entry : goal.bounds-marks-entry
 bounds-marks-entry c =

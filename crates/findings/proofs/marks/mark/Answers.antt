@@ -1,9 +1,6 @@
 -- `mark` meets its contract: a round that marks a state makes the marks more, and after the last one they are a fixed point.
-use mathlib.Core.Path.{◌≡◌, refl}
-use Prim.Native.Nat.{◌+◌, ◌-◌}
+use mathlib.Core.Path.{refl}
 use native.Mathlib.Omega.{arith}
-use lib.ListN.{length}
-use Rattle.findings.specs.Marks.{count_marks, Marks, FixedPoint}
 use Rattle.findings.proofs.MarkRounds.{count-few}
 use borrow.Author.Rules.{rules}
 use Rattle.findings.proofs.marks.mark.Goals as goal

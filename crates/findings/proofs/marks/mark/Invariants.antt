@@ -1,10 +1,7 @@
-use mathlib.Core.Path.{◌≡◌, refl}
+use mathlib.Core.Path.{◌≡◌}
 use Prim.Native.Nat.{◌+◌, ◌-◌}
-use native.Mathlib.Omega.{arith}
 use lib.ListN.{length}
 use Rattle.findings.specs.Marks.{count_marks, Marks, FixedPoint}
-use Rattle.findings.proofs.MarkRounds.{count-few}
-use borrow.Author.Rules.{rules}
 use Rattle.findings.proofs.marks.mark.Given as goal
 
 abbrev pub invariant-loop-gained : goal.invariant-loop-gained

@@ -1,9 +1,7 @@
 -- `mark_answering` meets its contract: the states below s are marked where they answer a request.
-use mathlib.Core.Path.{◌≡◌, refl}
-use Prim.Native.Nat.{◌+◌, ◌-◌}
+use mathlib.Core.Path.{refl}
 use native.Mathlib.Omega.{arith}
-use lib.ListN.{length}
-use Rattle.findings.proofs.MarkRounds.{Begun, begun_none, begun_more, begun_all}
+use Rattle.findings.proofs.MarkRounds.{begun_none, begun_more, begun_all}
 use borrow.Author.Rules.{rules}
 use Rattle.findings.proofs.marks.mark_answering.Goals as goal
 
@@ -14,7 +12,7 @@ pub loop-s-init : goal.loop-s-init
 loop-s-init c = (begun_none _ _ c.requires.2, refl)
 
 pub answers-requires : goal.answers-requires
-answers-requires c = record { book_passed = (c.requires.0, c.requires.1); le_state = (c.loop-s.invariant.0.some, omega (arith, c.loop-s-test.true, c.states-n.ensures)); }
+answers-requires c = record { book_passed = (c.requires.0, c.requires.1); le_state = (c.loop-s.invariant.0.some, omega (arith, c.loop-s-test.true, c.states-n.ensures)) }
 
 pub bounds-marks-s : goal.bounds-marks-s
 bounds-marks-s c = omega (arith, c.loop-s-test.true, c.states-n.ensures, c.requires.0.layout.header.states_most, c.loop-s.invariant.0.room)

@@ -1,9 +1,7 @@
-use mathlib.Core.Path.{◌≡◌, refl}
+use mathlib.Core.Path.{◌≡◌}
 use Prim.Native.Nat.{◌+◌, ◌-◌}
-use native.Mathlib.Omega.{arith}
 use lib.ListN.{length}
-use Rattle.findings.proofs.MarkRounds.{Begun, begun_none, begun_more, begun_all}
-use borrow.Author.Rules.{rules}
+use Rattle.findings.proofs.MarkRounds.{Begun}
 use Rattle.findings.proofs.marks.mark_answering.Given as goal
 
 abbrev pub invariant-loop-s : goal.invariant-loop-s

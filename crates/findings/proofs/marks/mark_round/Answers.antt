@@ -1,8 +1,7 @@
 -- `mark_round` meets its contract: the states below s have been looked at.
-use mathlib.Core.Path.{◌≡◌, refl}
-use Prim.Native.Nat.{◌+◌, ◌-◌}
+use mathlib.Core.Path.{refl}
+use Prim.Native.Nat.{◌+◌}
 use native.Mathlib.Omega.{arith}
-use lib.ListN.{length}
 use Rattle.findings.proofs.MarkRounds.{Round, round_begun, round_few, round_turn, round_done}
 use borrow.Author.Rules.{rules}
 use Rattle.findings.proofs.marks.mark_round.Goals.{After-slice_known-in-loop-s-1}
@@ -26,7 +25,7 @@ loop-s-init c = (round_begun _ _ c.requires.2, refl)
 
 pub mark_before-gained-requires : goal.mark_before-gained-requires
 mark_before-gained-requires c =
-    let l = c.loop-s in record { book_passed = (c.requires.0, c.requires.1, l.invariant.0.are.room); le_state = (l.invariant.0.some, omega (arith, c.loop-s-test.true, c.states-n.ensures)); }
+    let l = c.loop-s in record { book_passed = (c.requires.0, c.requires.1, l.invariant.0.are.room); le_state = (l.invariant.0.some, omega (arith, c.loop-s-test.true, c.states-n.ensures)) }
 
 pub overflow_add-gained : goal.overflow_add-gained
 overflow_add-gained c = let few = round_few _ c.requires.0 _ _ _ _ (turned c) in omega (arith, few)
@@ -39,4 +38,4 @@ loop-s-preserved c = (turned c, search rules)
 
 pub returns : goal.returns
 returns c =
-    let l = c.loop-s in record { marks = (l.invariant.0.are, l.invariant.0.count); fixed_point = round_done _ c.requires.0 _ _ _ _ l.invariant.0 (omega (arith, c.loop-s-test.false, c.states-n.ensures)); }
+    let l = c.loop-s in record { marks = (l.invariant.0.are, l.invariant.0.count); fixed_point = round_done _ c.requires.0 _ _ _ _ l.invariant.0 (omega (arith, c.loop-s-test.false, c.states-n.ensures)) }

@@ -1,9 +1,7 @@
-use mathlib.Core.Path.{◌≡◌, refl}
+use mathlib.Core.Path.{◌≡◌}
 use Prim.Native.Nat.{◌+◌, ◌-◌}
-use native.Mathlib.Omega.{arith}
 use lib.ListN.{length}
-use Rattle.findings.proofs.MarkRounds.{Round, round_begun, round_few, round_turn, round_done}
-use borrow.Author.Rules.{rules}
+use Rattle.findings.proofs.MarkRounds.{Round}
 use Rattle.findings.proofs.marks.mark_round.Given as goal
 
 abbrev pub invariant-loop-s : goal.invariant-loop-s

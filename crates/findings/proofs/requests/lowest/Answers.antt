@@ -1,10 +1,9 @@
 -- `lowest` meets its contract: the requests below r are not sought.
 use mathlib.Core.Path.{◌≡◌, ◌∙◌}
-use Prim.Native.Nat.{◌-◌, ◌≤◌}
 use native.Mathlib.Omega.{arith}
 use borrow.Author.Count.{below_more}
 use Rattle.findings.specs.SoughtRequests.{test_of}
-use Rattle.findings.proofs.LowestBelow.{NoneBelow, lowest_hit, lowest-end}
+use Rattle.findings.proofs.LowestBelow.{lowest_hit, lowest-end}
 use Rattle.findings.proofs.SoughtRequests.{sought_is}
 use borrow.Author.Rules.{rules}
 use Rattle.findings.proofs.requests.lowest.Goals.{After-is_sought}
@@ -24,7 +23,7 @@ pub loop-r-init : goal.loop-r-init
 loop-r-init c = (search rules, λ j l. absurd (omega arith))
 
 pub telling_at-requires : goal.telling_at-requires
-telling_at-requires c = record { book_layout = (c.requires.book_passed.0.layout, c.width_from-w.ensures); le_state = (c.requires.le_state.0, c.requires.le_state.1, omega (arith, c.loop-r-test.true, c.requires.book_passed.1)); }
+telling_at-requires c = record { book_layout = (c.requires.book_passed.0.layout, c.width_from-w.ensures); le_state = (c.requires.le_state.0, c.requires.le_state.1, omega (arith, c.loop-r-test.true, c.requires.book_passed.1)) }
 
 pub returns-then-is_sought : goal.returns-then-is_sought
 returns-then-is_sought c =

@@ -1,11 +1,6 @@
-use mathlib.Core.Path.{◌≡◌, ◌∙◌}
 use Prim.Native.Nat.{◌-◌, ◌≤◌}
-use native.Mathlib.Omega.{arith}
-use borrow.Author.Count.{below_more}
 use Rattle.findings.specs.SoughtRequests.{test_of}
-use Rattle.findings.proofs.LowestBelow.{NoneBelow, lowest_hit, lowest-end}
-use Rattle.findings.proofs.SoughtRequests.{sought_is}
-use borrow.Author.Rules.{rules}
+use Rattle.findings.proofs.LowestBelow.{NoneBelow}
 use Rattle.findings.proofs.requests.lowest.Given as goal
 
 abbrev pub invariant-loop-r : goal.invariant-loop-r

@@ -1,11 +1,9 @@
 -- `images::deciding::choose` meets its contract. The loop's invariant: the choice is that among the rules below k, and `rest` has the other rules, shifted down by k.
-use mathlib.Core.Path.{◌≡◌, sym, ◌∙◌}
-use Prim.Native.Nat.{◌≤◌, ◌<◌, ◌+◌, ◌/◌, ◌^◌}
+use mathlib.Core.Path.{sym, ◌∙◌}
+use Prim.Native.Nat.{◌<◌, ◌+◌}
 use native.Mathlib.Omega.{arith}
 use lib.ListN.{length, get_or}
 use lib.Pow.{shr_le}
-use borrow.Author.Rules.{rules}
-use Rattle.images.specs.Choice.{Chosen}
 use Rattle.rules.proofs.RuleSets.{Member, lowest_member, left-next}
 use Rattle.images.proofs.Choices.{chosen_turn, chosen_done}
 use Rattle.images.proofs.deciding.choose.Goals.{After-lowest-zeros}

@@ -1,12 +1,7 @@
-use mathlib.Core.Path.{◌≡◌, sym, ◌∙◌}
-use Prim.Native.Nat.{◌≤◌, ◌<◌, ◌+◌, ◌/◌, ◌^◌}
-use native.Mathlib.Omega.{arith}
-use lib.ListN.{length, get_or}
-use lib.Pow.{shr_le}
-use borrow.Author.Rules.{rules}
+use mathlib.Core.Path.{◌≡◌}
+use Prim.Native.Nat.{◌≤◌, ◌/◌, ◌^◌}
+use lib.ListN.{length}
 use Rattle.images.specs.Choice.{Chosen}
-use Rattle.rules.proofs.RuleSets.{Member, lowest_member, left-next}
-use Rattle.images.proofs.Choices.{chosen_turn, chosen_done}
 use Rattle.images.proofs.deciding.choose.Given as goal
 
 abbrev pub invariant-loop-rest : goal.invariant-loop-rest

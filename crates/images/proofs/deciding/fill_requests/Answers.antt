@@ -1,12 +1,10 @@
 -- `images::deciding::fill_requests` meets its contract. The loop's invariant: the entries of the requests before r are filled.
-use mathlib.Core.Path.{◌≡◌}
-use Prim.Native.Nat.{◌≤◌, ◌-◌, ◌*◌}
+use Prim.Native.Nat.{◌*◌}
 use native.Mathlib.Omega.{arith}
 use lib.ListN.{length, get_or, length-set}
 use borrow.Author.Rules.{rules}
-use Rattle.automaton.proofs.FilledList.{FilledUpTo, filled_begun}
+use Rattle.automaton.proofs.FilledList.{filled_begun}
 use Rattle.rules.proofs.Arrays.{filled_tabled}
-use Rattle.images.specs.Choice.{chosen_for}
 use Rattle.images.proofs.Choices.{listed_both, decided_turn}
 use Rattle.images.proofs.deciding.fill_requests.Goals as goal
 

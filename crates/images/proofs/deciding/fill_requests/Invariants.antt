@@ -1,12 +1,7 @@
-use mathlib.Core.Path.{◌≡◌}
 use Prim.Native.Nat.{◌≤◌, ◌-◌, ◌*◌}
-use native.Mathlib.Omega.{arith}
-use lib.ListN.{length, get_or, length-set}
-use borrow.Author.Rules.{rules}
-use Rattle.automaton.proofs.FilledList.{FilledUpTo, filled_begun}
-use Rattle.rules.proofs.Arrays.{filled_tabled}
+use lib.ListN.{length}
+use Rattle.automaton.proofs.FilledList.{FilledUpTo}
 use Rattle.images.specs.Choice.{chosen_for}
-use Rattle.images.proofs.Choices.{listed_both, decided_turn}
 use Rattle.images.proofs.deciding.fill_requests.Given as goal
 
 abbrev pub invariant-loop-r : goal.invariant-loop-r

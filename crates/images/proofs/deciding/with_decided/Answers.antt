@@ -1,6 +1,5 @@
 -- `images::deciding::with_decided` meets its contract.
 use borrow.Author.Tests.{eq-eqb, ne_eqb}
-use borrow.Author.Rules.{rules}
 use Rattle.images.proofs.deciding.with_decided.Goals as goal
 
 pub returns-then-decision-d : goal.returns-then-decision-d

@@ -2,7 +2,6 @@
 use native.Mathlib.Nat.{max-eq_left, max-eq_right}
 use native.Mathlib.Omega.{arith}
 use borrow.Author.Tests.{lt-ltb, le-ltb}
-use borrow.Author.Rules.{rules}
 use Rattle.images.proofs.deciding.with_rule.Goals as goal
 
 pub returns-then-level-choice : goal.returns-then-level-choice

@@ -1,10 +1,9 @@
 -- `policy::counts::requests` meets its contract. The loop's invariant: the product is that of the counts before f.
 use mathlib.Core.Path.{◌≡◌}
-use Prim.Native.Nat.{◌≤◌, ◌-◌}
 use native.Mathlib.Omega.{arith}
 use borrow.Author.Rules.{rules}
 use Rattle.definitions.specs.Policy.{fields, count}
-use Rattle.definitions.proofs.Products.{Multiplied, multiplied_none, multiplied_more, next_fits}
+use Rattle.definitions.proofs.Products.{multiplied_none, multiplied_more, next_fits}
 use Rattle.policy.proofs.counts.requests.Goals as goal
 
 pub loop-f-init : goal.loop-f-init

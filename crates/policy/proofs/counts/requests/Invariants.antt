@@ -1,9 +1,6 @@
-use mathlib.Core.Path.{◌≡◌}
 use Prim.Native.Nat.{◌≤◌, ◌-◌}
-use native.Mathlib.Omega.{arith}
-use borrow.Author.Rules.{rules}
-use Rattle.definitions.specs.Policy.{fields, count}
-use Rattle.definitions.proofs.Products.{Multiplied, multiplied_none, multiplied_more, next_fits}
+use Rattle.definitions.specs.Policy.{count}
+use Rattle.definitions.proofs.Products.{Multiplied}
 use Rattle.policy.proofs.counts.requests.Given as goal
 
 abbrev pub invariant-loop-f : goal.invariant-loop-f

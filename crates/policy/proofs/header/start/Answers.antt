@@ -1,5 +1,4 @@
 -- `policy::header::start` meets its contract.
-use borrow.Author.Rules.{rules}
 use Rattle.policy.proofs.header.start.Goals as goal
 
 pub returns : goal.returns

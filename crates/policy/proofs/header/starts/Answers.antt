@@ -2,7 +2,6 @@
 use mathlib.Core.Path.{sym, ◌∙◌}
 use native.Mathlib.Omega.{arith}
 use borrow.Author.Tests.{eq-eqb, ne_eqb}
-use borrow.Author.Rules.{rules}
 use Rattle.policy.proofs.header.starts.Goals as goal
 
 pub returns-then-two_bytes-eq2 : goal.returns-then-two_bytes-eq2

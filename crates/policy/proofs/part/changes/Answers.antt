@@ -1,6 +1,5 @@
 -- `policy::part::changes` meets its contract.
 use mathlib.Core.Path.{ap, ◌∙◌}
-use borrow.Author.Rules.{rules}
 use Rattle.definitions.specs.Policy.{rule}
 use Rattle.policy.proofs.part.changes.Goals as goal
 

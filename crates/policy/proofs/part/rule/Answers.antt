@@ -2,7 +2,6 @@
 use Prim.Native.Nat.{◌*◌, ◌≤◌}
 use native.Mathlib.Omega.{arith}
 use lib.ListN.{length}
-use borrow.Author.Rules.{rules}
 use Rattle.policy.proofs.Parts.{rule-within, rule-is, rule_part}
 use Rattle.policy.proofs.part.rule.Goals.{After-rule_size}
 use Rattle.policy.proofs.part.rule.Goals as goal

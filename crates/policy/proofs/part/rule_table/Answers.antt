@@ -1,5 +1,4 @@
 -- `policy::part::rule_table` meets its contract.
-use borrow.Author.Rules.{rules}
 use Rattle.automaton.proofs.Loops.{part_is-drop}
 use Rattle.policy.proofs.part.rule_table.Goals as goal
 

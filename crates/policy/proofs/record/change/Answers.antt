@@ -1,5 +1,4 @@
 -- `policy::record::change` meets its contract.
-use borrow.Author.Rules.{rules}
 use Rattle.policy.proofs.record.change.Goals as goal
 
 pub returns : goal.returns

@@ -1,5 +1,4 @@
 -- `policy::record::decision` meets its contract.
-use borrow.Author.Rules.{rules}
 use Rattle.policy.proofs.record.decision.Goals as goal
 
 pub returns : goal.returns

@@ -1,5 +1,4 @@
 -- `policy::record::ge` meets its contract.
-use borrow.Author.Rules.{rules}
 use Rattle.policy.proofs.record.ge.Goals as goal
 
 pub returns : goal.returns

@@ -1,5 +1,4 @@
 -- `policy::record::level` meets its contract.
-use borrow.Author.Rules.{rules}
 use Rattle.policy.proofs.record.level.Goals as goal
 
 pub returns : goal.returns

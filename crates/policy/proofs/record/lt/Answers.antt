@@ -1,5 +1,4 @@
 -- `policy::record::lt` meets its contract.
-use borrow.Author.Rules.{rules}
 use Rattle.policy.proofs.record.lt.Goals as goal
 
 pub returns : goal.returns

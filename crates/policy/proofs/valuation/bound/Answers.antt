@@ -1,8 +1,6 @@
 -- `policy::valuation::bound` meets its contract. The loop's invariant: `most` is the greatest number that the rules before k test the variable with.
 use mathlib.Core.Path.{◌≡◌}
-use Prim.Native.Nat.{◌≤◌, ◌<◌, ◌-◌}
 use native.Mathlib.Omega.{arith}
-use Rattle.automaton.specs.Below.{fold_below}
 use Rattle.automaton.proofs.Loops.{fold_more}
 use Rattle.definitions.specs.Policy.{rules}
 use Rattle.definitions.specs.Valuation.{greatest_tested}

@@ -1,9 +1,6 @@
 use mathlib.Core.Path.{◌≡◌}
 use Prim.Native.Nat.{◌≤◌, ◌<◌, ◌-◌}
-use native.Mathlib.Omega.{arith}
 use Rattle.automaton.specs.Below.{fold_below}
-use Rattle.automaton.proofs.Loops.{fold_more}
-use Rattle.definitions.specs.Policy.{rules}
 use Rattle.definitions.specs.Valuation.{greatest_tested}
 use Rattle.policy.proofs.valuation.bound.Given as goal
 

@@ -1,8 +1,7 @@
 -- `policy::valuation::start` meets its contract. The loop's invariant: the sum has the values of the variables from j on.
 use mathlib.Core.Path.{◌≡◌, refl, sym, ap₂, ◌∙◌}
-use Prim.Native.Nat.{◌≤◌, ◌<◌, ◌-◌, ◌+◌, ◌*◌, min}
+use Prim.Native.Nat.{◌<◌, ◌-◌, ◌+◌, ◌*◌, min}
 use native.Mathlib.Omega.{arith}
-use borrow.Author.Rules.{rules}
 use Rattle.definitions.specs.Policy.{starts}
 use Rattle.definitions.specs.Valuation.{initial_value}
 use Rattle.definitions.proofs.Starts.{starts-most, start_carried, start_summed}

@@ -1,12 +1,7 @@
-use mathlib.Core.Path.{◌≡◌, refl, sym, ap₂, ◌∙◌}
-use Prim.Native.Nat.{◌≤◌, ◌<◌, ◌-◌, ◌+◌, ◌*◌, min}
-use native.Mathlib.Omega.{arith}
-use borrow.Author.Rules.{rules}
+use Prim.Native.Nat.{◌≤◌}
 use Rattle.definitions.specs.Policy.{starts}
 use Rattle.definitions.specs.Valuation.{initial_value}
-use Rattle.definitions.proofs.Starts.{starts-most, start_carried, start_summed}
-use Rattle.definitions.proofs.Valuations.{initial_bound}
-use Rattle.policy.proofs.ValuationSums.{Summed, summed-none, summed-more, summed-all, summed-low}
+use Rattle.policy.proofs.ValuationSums.{Summed}
 use Rattle.policy.proofs.valuation.start.Given as goal
 
 abbrev pub invariant-loop-j : goal.invariant-loop-j

@@ -1,11 +1,11 @@
 -- `policy::valuation::valuations` meets its contract. The loop's invariant: the product is that of the numbers of values of the variables before j.
 use mathlib.Core.Path.{◌≡◌}
-use Prim.Native.Nat.{◌≤◌, ◌-◌, ◌+◌}
+use Prim.Native.Nat.{◌+◌}
 use native.Mathlib.Omega.{arith}
 use borrow.Author.Rules.{rules}
 use Rattle.definitions.specs.Policy.{variables}
 use Rattle.definitions.specs.Valuation.{values_of}
-use Rattle.definitions.proofs.Products.{Multiplied, multiplied_none, multiplied_more, next_fits}
+use Rattle.definitions.proofs.Products.{multiplied_none, multiplied_more, next_fits}
 use Rattle.policy.proofs.valuation.valuations.Goals as goal
 
 pub loop-j-init : goal.loop-j-init

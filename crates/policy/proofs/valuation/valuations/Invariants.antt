@@ -1,10 +1,6 @@
-use mathlib.Core.Path.{◌≡◌}
-use Prim.Native.Nat.{◌≤◌, ◌-◌, ◌+◌}
-use native.Mathlib.Omega.{arith}
-use borrow.Author.Rules.{rules}
-use Rattle.definitions.specs.Policy.{variables}
+use Prim.Native.Nat.{◌≤◌, ◌-◌}
 use Rattle.definitions.specs.Valuation.{values_of}
-use Rattle.definitions.proofs.Products.{Multiplied, multiplied_none, multiplied_more, next_fits}
+use Rattle.definitions.proofs.Products.{Multiplied}
 use Rattle.policy.proofs.valuation.valuations.Given as goal
 
 abbrev pub invariant-loop-j : goal.invariant-loop-j

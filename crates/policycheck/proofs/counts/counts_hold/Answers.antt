@@ -1,5 +1,4 @@
 -- `counts_hold` meets its contract.
-use borrow.Author.Rules.{rules}
 use Rattle.policycheck.proofs.counts.counts_hold.Goals as goal
 
 pub returns : goal.returns

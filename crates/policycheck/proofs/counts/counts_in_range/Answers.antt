@@ -1,9 +1,7 @@
 -- `counts_in_range` meets its contract. The loop's invariant: `pass` says whether every count before f is in its range.
 use mathlib.Core.Path.{◌≡◌, ap, ◌∙◌}
-use Prim.Native.Nat.{ℕ, ◌≤◌, ◌-◌}
+use Prim.Native.Nat.{ℕ}
 use native.Mathlib.Omega.{arith}
-use borrow.Author.Rules.{rules}
-use Rattle.automaton.specs.Below.{all_below}
 use Rattle.automaton.proofs.Loops.{all-next}
 use Rattle.definitions.specs.Bytes.{within}
 use Rattle.definitions.specs.Policy.{fields}

@@ -1,11 +1,6 @@
-use mathlib.Core.Path.{◌≡◌, ap, ◌∙◌}
-use Prim.Native.Nat.{ℕ, ◌≤◌, ◌-◌}
-use native.Mathlib.Omega.{arith}
-use borrow.Author.Rules.{rules}
+use mathlib.Core.Path.{◌≡◌}
+use Prim.Native.Nat.{◌≤◌, ◌-◌}
 use Rattle.automaton.specs.Below.{all_below}
-use Rattle.automaton.proofs.Loops.{all-next}
-use Rattle.definitions.specs.Bytes.{within}
-use Rattle.definitions.specs.Policy.{fields}
 use Rattle.definitions.specs.Refusal.{count_in_range}
 use Rattle.policycheck.proofs.counts.counts_in_range.Given as goal
 

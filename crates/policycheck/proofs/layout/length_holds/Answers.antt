@@ -2,7 +2,6 @@
 use Prim.Native.Nat.{◌≤◌, ◌*◌}
 use native.Mathlib.Nat.{mul-le-mul}
 use native.Mathlib.Omega.{arith}
-use borrow.Author.Rules.{rules}
 use Rattle.policycheck.proofs.layout.length_holds.Goals.{After-rule_size, After-variables}
 use Rattle.policycheck.proofs.layout.length_holds.Goals as goal
 

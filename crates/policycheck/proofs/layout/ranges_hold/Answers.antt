@@ -1,5 +1,4 @@
 -- `ranges_hold` meets its contract.
-use borrow.Author.Rules.{rules}
 use Rattle.policycheck.proofs.layout.ranges_hold.Goals as goal
 
 pub returns : goal.returns

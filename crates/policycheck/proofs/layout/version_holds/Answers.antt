@@ -1,5 +1,4 @@
 -- `version_holds` meets its contract.
-use borrow.Author.Rules.{rules}
 use Rattle.policycheck.proofs.layout.version_holds.Goals as goal
 
 pub returns : goal.returns

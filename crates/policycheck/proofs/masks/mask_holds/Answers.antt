@@ -1,7 +1,6 @@
 -- `mask_holds` meets its contract.
 use Prim.Native.Nat.{◌<◌}
 use native.Mathlib.Omega.{arith}
-use borrow.Author.Rules.{rules}
 use Rattle.definitions.proofs.Sets.{one_shifted}
 use Rattle.policy.proofs.PassedFile.{count_in_range_law}
 use Rattle.policycheck.proofs.masks.mask_holds.Goals.{After-count}

@@ -1,8 +1,6 @@
 -- `masks_hold` meets its contract. The loop's invariant: `pass` says whether every rule before k passes.
 use mathlib.Core.Path.{◌≡◌, ap, ◌∙◌}
-use Prim.Native.Nat.{◌≤◌, ◌-◌}
 use native.Mathlib.Omega.{arith}
-use Rattle.automaton.specs.Below.{all_below}
 use Rattle.automaton.proofs.Loops.{all-next}
 use Rattle.definitions.specs.Policy.{rules}
 use Rattle.definitions.specs.Refusal.{rule_passes, rule_masks_hold}

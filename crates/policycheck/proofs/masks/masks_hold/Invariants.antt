@@ -1,9 +1,6 @@
-use mathlib.Core.Path.{◌≡◌, ap, ◌∙◌}
+use mathlib.Core.Path.{◌≡◌}
 use Prim.Native.Nat.{◌≤◌, ◌-◌}
-use native.Mathlib.Omega.{arith}
 use Rattle.automaton.specs.Below.{all_below}
-use Rattle.automaton.proofs.Loops.{all-next}
-use Rattle.definitions.specs.Policy.{rules}
 use Rattle.definitions.specs.Refusal.{rule_passes, rule_masks_hold}
 use Rattle.policycheck.proofs.masks.masks_hold.Given as goal
 

@@ -1,9 +1,6 @@
 -- `rule_masks_hold` meets its contract. The loop's invariant: `pass` says whether every mask before f passes.
 use mathlib.Core.Path.{◌≡◌}
-use Prim.Native.Nat.{◌≤◌, ◌-◌}
 use native.Mathlib.Omega.{arith}
-use borrow.Author.Rules.{rules}
-use Rattle.automaton.specs.Below.{all_below}
 use Rattle.automaton.proofs.Loops.{all-next}
 use Rattle.definitions.specs.Policy.{fields}
 use Rattle.definitions.specs.Refusal.{mask_holds}

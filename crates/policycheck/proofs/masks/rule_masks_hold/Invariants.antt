@@ -1,10 +1,6 @@
 use mathlib.Core.Path.{◌≡◌}
 use Prim.Native.Nat.{◌≤◌, ◌-◌}
-use native.Mathlib.Omega.{arith}
-use borrow.Author.Rules.{rules}
 use Rattle.automaton.specs.Below.{all_below}
-use Rattle.automaton.proofs.Loops.{all-next}
-use Rattle.definitions.specs.Policy.{fields}
 use Rattle.definitions.specs.Refusal.{mask_holds}
 use Rattle.policycheck.proofs.masks.rule_masks_hold.Given as goal
 

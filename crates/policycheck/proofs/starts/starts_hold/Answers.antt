@@ -1,10 +1,8 @@
 -- `starts_hold` meets its contract. The loop's invariant: `pass` says whether every starting value before j is at most 63.
 use mathlib.Core.Path.{◌≡◌, ap, sym, ◌∙◌}
-use Prim.Native.Nat.{ℕ, ◌≤◌, ◌<◌, ◌-◌}
+use Prim.Native.Nat.{ℕ, ◌<◌}
 use native.Mathlib.Omega.{arith}
 use lib.Dec.{leb}
-use borrow.Author.Rules.{rules}
-use Rattle.automaton.specs.Below.{all_below}
 use Rattle.automaton.proofs.Loops.{all-next}
 use Rattle.definitions.specs.Policy.{starts}
 use Rattle.definitions.specs.Refusal.{start_holds}

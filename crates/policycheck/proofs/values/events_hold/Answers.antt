@@ -1,10 +1,6 @@
 -- `events_hold` meets its contract. The loop's invariant: `pass` says whether every change before place i passes.
-use mathlib.Core.Path.{◌≡◌, refl}
-use Prim.Native.Nat.{◌≤◌, ◌-◌}
+use mathlib.Core.Path.{refl}
 use native.Mathlib.Omega.{arith}
-use lib.ListN.{length}
-use borrow.Author.Rules.{rules}
-use Rattle.automaton.specs.Below.{all_below}
 use Rattle.automaton.proofs.Loops.{all-next}
 use Rattle.policycheck.proofs.EventChanges.{change_holds, events_hold}
 use Rattle.policycheck.proofs.values.events_hold.Goals as goal

@@ -1,11 +1,8 @@
-use mathlib.Core.Path.{◌≡◌, refl}
+use mathlib.Core.Path.{◌≡◌}
 use Prim.Native.Nat.{◌≤◌, ◌-◌}
-use native.Mathlib.Omega.{arith}
 use lib.ListN.{length}
-use borrow.Author.Rules.{rules}
 use Rattle.automaton.specs.Below.{all_below}
-use Rattle.automaton.proofs.Loops.{all-next}
-use Rattle.policycheck.proofs.EventChanges.{change_holds, events_hold}
+use Rattle.policycheck.proofs.EventChanges.{change_holds}
 use Rattle.policycheck.proofs.values.events_hold.Given as goal
 
 abbrev pub invariant-loop-i : goal.invariant-loop-i

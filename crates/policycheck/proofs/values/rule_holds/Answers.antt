@@ -1,9 +1,6 @@
 -- `rule_holds` meets its contract. The loop's invariant: `pass` says whether every variable before j passes.
 use mathlib.Core.Path.{◌≡◌}
-use Prim.Native.Nat.{◌≤◌, ◌-◌}
 use native.Mathlib.Omega.{arith}
-use borrow.Author.Rules.{rules}
-use Rattle.automaton.specs.Below.{all_below}
 use Rattle.automaton.proofs.Loops.{all-next}
 use Rattle.definitions.specs.Policy.{variables}
 use Rattle.definitions.specs.Refusal.{test_holds}

@@ -1,10 +1,6 @@
 use mathlib.Core.Path.{◌≡◌}
 use Prim.Native.Nat.{◌≤◌, ◌-◌}
-use native.Mathlib.Omega.{arith}
-use borrow.Author.Rules.{rules}
 use Rattle.automaton.specs.Below.{all_below}
-use Rattle.automaton.proofs.Loops.{all-next}
-use Rattle.definitions.specs.Policy.{variables}
 use Rattle.definitions.specs.Refusal.{test_holds}
 use Rattle.policycheck.proofs.values.rule_holds.Given as goal
 

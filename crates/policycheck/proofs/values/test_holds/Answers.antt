@@ -1,5 +1,4 @@
 -- `test_holds` meets its contract.
-use borrow.Author.Rules.{rules}
 use Rattle.policycheck.proofs.values.test_holds.Goals as goal
 
 pub returns : goal.returns

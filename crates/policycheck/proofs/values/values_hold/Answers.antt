@@ -1,5 +1,4 @@
 -- `values_hold` meets its contract.
-use borrow.Author.Rules.{rules}
 use Rattle.policycheck.proofs.values.values_hold.Goals as goal
 
 pub returns : goal.returns

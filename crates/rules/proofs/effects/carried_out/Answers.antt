@@ -1,11 +1,9 @@
 -- `rules::effects::carried_out` meets its contract. The loop's invariant: `sum` has the changed variables from j on.
 use mathlib.Core.Path.{◌≡◌, ap, ap₂, ◌∙◌}
-use Prim.Native.Nat.{ℕ, ◌≤◌, ◌<◌, ◌-◌, ◌+◌, ◌*◌}
+use Prim.Native.Nat.{ℕ, ◌<◌, ◌-◌, ◌+◌, ◌*◌}
 use native.Mathlib.Omega.{arith}
 use mathlib.Core.List.{List}
 use lib.ListN.{length, get_or}
-use borrow.Author.Rules.{rules}
-use Rattle.definitions.specs.Policy.{variables}
 use Rattle.definitions.specs.Valuation.{bound, with_variable, changed}
 use Rattle.automaton.specs.Below.{fold_below}
 use Rattle.policy.proofs.ValuationSums.{bound_small, Summed, summed-none, summed-more, summed-all, valuation-low, summed-low}
@@ -92,6 +90,8 @@ returns c =
     let a = c.args in
     let loop = c.loop-j in
     let new = changes a.policy.now a.part.now a.first a.step a.values.now in
-    let e = summed-all a.policy.now new loop.j loop.sum (omega (arith, c.loop-j-test.false)) loop.invariant.1 in
-    (e, rw e (valuation-low a.policy.now new c.requires.0.few_valuations
-    (changed-within a.policy.now (change_at a.part.now a.first a.step) (entry_of a.values.now) c.requires.2.most)))
+    let e = summed-all a.policy.now new loop.j loop.sum (omega (arith, c.loop-j-test.false)) loop.invariant.1 in (
+      e,
+      rw e (valuation-low a.policy.now new c.requires.0.few_valuations
+          (changed-within a.policy.now (change_at a.part.now a.first a.step) (entry_of a.values.now) c.requires.2.most)),
+    )

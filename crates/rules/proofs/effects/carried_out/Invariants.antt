@@ -1,15 +1,8 @@
-use mathlib.Core.Path.{◌≡◌, ap, ap₂, ◌∙◌}
-use Prim.Native.Nat.{ℕ, ◌≤◌, ◌<◌, ◌-◌, ◌+◌, ◌*◌}
-use native.Mathlib.Omega.{arith}
-use lib.ListN.{length, get_or}
-use borrow.Author.Rules.{rules}
+use Prim.Native.Nat.{◌≤◌}
 use Rattle.definitions.specs.Policy.{variables}
-use Rattle.definitions.specs.Valuation.{bound, with_variable, changed}
-use Rattle.automaton.specs.Below.{fold_below}
-use Rattle.policy.proofs.ValuationSums.{bound_small, Summed, summed-none, summed-more, summed-all, valuation-low, summed-low}
+use Rattle.policy.proofs.ValuationSums.{Summed}
 use Rattle.rules.specs.Arrays.{entry_of}
 use Rattle.rules.specs.Changes.{change_at, changed_by}
-use Rattle.rules.proofs.Changes.{changed-within}
 use Rattle.rules.proofs.effects.carried_out.Given as goal
 
 abbrev pub invariant-loop-j : goal.invariant-loop-j

@@ -1,9 +1,6 @@
 -- `rules::effects::enabled` meets its contract. The loop's invariant: `pass` says whether the tests of every variable before j pass.
 use mathlib.Core.Path.{◌≡◌}
-use Prim.Native.Nat.{◌≤◌, ◌-◌}
 use native.Mathlib.Omega.{arith}
-use borrow.Author.Rules.{rules}
-use Rattle.automaton.specs.Below.{all_below}
 use Rattle.automaton.proofs.Loops.{all-next}
 use Rattle.definitions.specs.Policy.{variables}
 use Rattle.rules.specs.Arrays.{entry_of}

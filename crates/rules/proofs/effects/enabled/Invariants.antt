@@ -1,10 +1,6 @@
 use mathlib.Core.Path.{◌≡◌}
 use Prim.Native.Nat.{◌≤◌, ◌-◌}
-use native.Mathlib.Omega.{arith}
-use borrow.Author.Rules.{rules}
 use Rattle.automaton.specs.Below.{all_below}
-use Rattle.automaton.proofs.Loops.{all-next}
-use Rattle.definitions.specs.Policy.{variables}
 use Rattle.rules.specs.Arrays.{entry_of}
 use Rattle.rules.specs.RuleSets.{test_passes_by}
 use Rattle.rules.proofs.effects.enabled.Given as goal

@@ -1,11 +1,8 @@
 -- `rules::effects::fill_bounds` meets its contract. The loop's invariant: the first j entries are filled.
-use mathlib.Core.Path.{◌≡◌}
-use Prim.Native.Nat.{◌≤◌, ◌-◌}
 use native.Mathlib.Omega.{arith}
 use borrow.Author.Rules.{rules}
-use Rattle.automaton.proofs.FilledList.{FilledUpTo, filled_begun, filled_turn}
+use Rattle.automaton.proofs.FilledList.{filled_begun, filled_turn}
 use Rattle.definitions.specs.Policy.{variables}
-use Rattle.definitions.specs.Valuation.{bound}
 use Rattle.rules.proofs.Arrays.{filled_tabled}
 use Rattle.rules.proofs.effects.fill_bounds.Goals as goal
 

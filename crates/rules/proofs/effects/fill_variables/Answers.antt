@@ -1,12 +1,12 @@
 -- `rules::effects::fill_variables` meets its contract. The loop's invariant: the first j entries are filled, and `rest` is what remains of v.
 use mathlib.Core.Path.{◌≡◌}
-use Prim.Native.Nat.{◌≤◌, ◌<◌, ◌-◌, ◌+◌, ◌/◌}
+use Prim.Native.Nat.{◌<◌, ◌+◌}
 use native.Mathlib.Omega.{arith}
 use lib.ListN.{get_or}
 use borrow.Author.Rules.{rules}
-use Rattle.automaton.proofs.FilledList.{FilledUpTo, filled_begun, filled_turn}
+use Rattle.automaton.proofs.FilledList.{filled_begun, filled_turn}
 use Rattle.definitions.specs.Policy.{variables}
-use Rattle.definitions.specs.Valuation.{bound, worth, values_of, variable_in}
+use Rattle.definitions.specs.Valuation.{bound, values_of}
 use Rattle.rules.proofs.Arrays.{filled_tabled}
 use Rattle.rules.proofs.Changes.{rest_more, variable_is}
 use Rattle.policy.proofs.ValuationSums.{bound_small}

@@ -1,5 +1,4 @@
 -- `rules::effects::test_passes` meets its contract.
-use borrow.Author.Rules.{rules}
 use Rattle.rules.proofs.Changes.{limited}
 use Rattle.rules.proofs.effects.test_passes.Goals as goal
 

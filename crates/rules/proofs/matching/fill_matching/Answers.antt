@@ -1,11 +1,8 @@
 -- `rules::matching::fill_matching` meets its contract. The loop's invariant: the first r entries are filled.
-use mathlib.Core.Path.{◌≡◌}
-use Prim.Native.Nat.{◌≤◌, ◌-◌}
 use native.Mathlib.Omega.{arith}
 use borrow.Author.Rules.{rules}
-use Rattle.automaton.proofs.FilledList.{FilledUpTo, filled_begun, filled_turn}
+use Rattle.automaton.proofs.FilledList.{filled_begun, filled_turn}
 use Rattle.definitions.specs.Policy.{requests}
-use Rattle.rules.specs.RuleSets.{matching}
 use Rattle.rules.proofs.Arrays.{filled_tabled}
 use Rattle.rules.proofs.matching.fill_matching.Goals as goal
 

@@ -1,11 +1,6 @@
-use mathlib.Core.Path.{◌≡◌}
 use Prim.Native.Nat.{◌≤◌, ◌-◌}
-use native.Mathlib.Omega.{arith}
-use borrow.Author.Rules.{rules}
-use Rattle.automaton.proofs.FilledList.{FilledUpTo, filled_begun, filled_turn}
-use Rattle.definitions.specs.Policy.{requests}
+use Rattle.automaton.proofs.FilledList.{FilledUpTo}
 use Rattle.rules.specs.RuleSets.{matching}
-use Rattle.rules.proofs.Arrays.{filled_tabled}
 use Rattle.rules.proofs.matching.fill_matching.Given as goal
 
 abbrev pub invariant-loop-r : goal.invariant-loop-r

@@ -1,9 +1,8 @@
 -- `rules::matching::fill_values` meets its contract. The loop's invariant: the fields from f on have their entries, and `rest` has the values of those before.
 use native.Mathlib.Omega.{arith}
 use Prim.Native.Nat.{◌≤◌, ◌-◌}
-use borrow.Author.Rules.{rules}
 use Rattle.policy.proofs.PassedFile.{count_in_range_law}
-use Rattle.rules.proofs.Values.{Taken, taken_begun, taken_turn, taken_done}
+use Rattle.rules.proofs.Values.{taken_begun, taken_turn, taken_done}
 use Rattle.rules.proofs.matching.fill_values.Goals.{After-count-count}
 use Rattle.rules.proofs.matching.fill_values.Goals as goal
 

@@ -1,8 +1,4 @@
-use native.Mathlib.Omega.{arith}
-use Prim.Native.Nat.{◌≤◌, ◌-◌}
-use borrow.Author.Rules.{rules}
-use Rattle.policy.proofs.PassedFile.{count_in_range_law}
-use Rattle.rules.proofs.Values.{Taken, taken_begun, taken_turn, taken_done}
+use Rattle.rules.proofs.Values.{Taken}
 use Rattle.rules.proofs.matching.fill_values.Given as goal
 
 abbrev pub invariant-loop-f : goal.invariant-loop-f

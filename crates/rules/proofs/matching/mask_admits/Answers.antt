@@ -1,5 +1,4 @@
 -- `rules::matching::mask_admits` meets its contract.
-use borrow.Author.Rules.{rules}
 use Rattle.rules.proofs.matching.mask_admits.Goals as goal
 
 pub returns : goal.returns

@@ -1,9 +1,7 @@
 -- `rules::matching::rule_admits` meets its contract. The loop's invariant: `pass` says whether every mask before f admits its value.
 use mathlib.Core.Path.{◌≡◌}
-use Prim.Native.Nat.{◌≤◌, ◌-◌}
 use native.Mathlib.Omega.{arith}
 use borrow.Author.Rules.{rules}
-use Rattle.automaton.specs.Below.{all_below}
 use Rattle.automaton.proofs.Loops.{all-next}
 use Rattle.definitions.specs.Policy.{fields}
 use Rattle.rules.specs.Arrays.{entry_of}

@@ -1,12 +1,12 @@
 -- `rules::matching::rules_admitting` meets its contract. The loop's invariant: the set has those of the first k rules.
 use mathlib.Core.Path.{◌≡◌, refl, ap, ◌∙◌}
 use mathlib.Core.List.{List}
-use Prim.Native.Nat.{ℕ, ◌≤◌, ◌-◌}
+use Prim.Native.Nat.{ℕ}
 use native.Mathlib.Omega.{arith}
 use borrow.Author.Rules.{rules as author_rules}
 use Rattle.definitions.specs.Policy.{rules}
 use Rattle.rules.specs.Arrays.{entry_of}
-use Rattle.rules.specs.RuleSets.{passing, admits, rule_admits}
+use Rattle.rules.specs.RuleSets.{admits, rule_admits}
 use Rattle.rules.proofs.RuleSets.{passing-next}
 use Rattle.rules.proofs.matching.rules_admitting.Goals as goal
 

@@ -1,11 +1,7 @@
-use mathlib.Core.Path.{◌≡◌, refl, ap, ◌∙◌}
-use mathlib.Core.List.{List}
-use Prim.Native.Nat.{ℕ, ◌≤◌, ◌-◌}
-use native.Mathlib.Omega.{arith}
-use Rattle.definitions.specs.Policy.{rules}
+use mathlib.Core.Path.{◌≡◌}
+use Prim.Native.Nat.{◌≤◌, ◌-◌}
 use Rattle.rules.specs.Arrays.{entry_of}
-use Rattle.rules.specs.RuleSets.{passing, admits, rule_admits}
-use Rattle.rules.proofs.RuleSets.{passing-next}
+use Rattle.rules.specs.RuleSets.{passing, rule_admits}
 use Rattle.rules.proofs.matching.rules_admitting.Given as goal
 
 abbrev pub invariant-loop-k : goal.invariant-loop-k

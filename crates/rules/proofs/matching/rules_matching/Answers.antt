@@ -1,6 +1,5 @@
 -- `rules::matching::rules_matching` meets its contract.
 use mathlib.Core.Path.{◌∙◌}
-use borrow.Author.Rules.{rules}
 use Rattle.definitions.specs.Policy.{value}
 use Rattle.rules.specs.Arrays.{entry_of}
 use Rattle.rules.proofs.Values.{admitting-same, value_small}

@@ -1,5 +1,4 @@
 -- `rules::sets::with_passing` meets its contract.
-use borrow.Author.Rules.{rules}
 use Rattle.definitions.proofs.Sets.{one_shifted}
 use Rattle.rules.proofs.sets.with_passing.Goals as goal
 

@@ -1,9 +1,9 @@
 -- `explore` meets its contract: i states have been visited, and at most as many are found as the table has rows.
-use mathlib.Core.Path.{◌≡◌, refl}
-use Prim.Native.Nat.{◌-◌, ◌/◌, ◌≤◌, ◌<◌}
+use mathlib.Core.Path.{refl}
+use Prim.Native.Nat.{◌≤◌}
 use native.Mathlib.Omega.{arith}
-use lib.ListN.{length, length-set}
-use Rattle.search.proofs.SearchTurns.{SearchTurn, searched_begun, searched_few, searched-next, searched-turn, searched_done}
+use lib.ListN.{length-set}
+use Rattle.search.proofs.SearchTurns.{searched_begun, searched_few, searched-next, searched-turn, searched_done}
 use borrow.Author.Rules.{rules}
 use Rattle.search.proofs.breadth_first.explore.Goals.{After-slice_known-in-loop-i-3-1}
 use Rattle.search.proofs.breadth_first.explore.Goals as goal
@@ -22,7 +22,7 @@ loop-i-init c =
 pub visit-n-requires : goal.visit-n-requires
 visit-n-requires c =
     let small = c.requires.0 in
-    let l = c.loop-i in record { small_table = (small, searched-next _ _ small l.invariant.0 c.loop-i-test.true); arrays = (l.invariant.0.are, l.invariant.4); }
+    let l = c.loop-i in record { small_table = (small, searched-next _ _ small l.invariant.0 c.loop-i-test.true); arrays = (l.invariant.0.are, l.invariant.4) }
 
 pub overflow_add-i : goal.overflow_add-i
 overflow_add-i c = omega (arith, few c, c.loop-i-test.true)

@@ -1,9 +1,7 @@
-use mathlib.Core.Path.{◌≡◌, refl}
-use Prim.Native.Nat.{◌-◌, ◌/◌, ◌≤◌, ◌<◌}
-use native.Mathlib.Omega.{arith}
-use lib.ListN.{length, length-set}
-use Rattle.search.proofs.SearchTurns.{SearchTurn, searched_begun, searched_few, searched-next, searched-turn, searched_done}
-use borrow.Author.Rules.{rules}
+use mathlib.Core.Path.{◌≡◌}
+use Prim.Native.Nat.{◌-◌, ◌/◌, ◌<◌}
+use lib.ListN.{length}
+use Rattle.search.proofs.SearchTurns.{SearchTurn}
 use Rattle.search.proofs.breadth_first.explore.Given as goal
 
 abbrev pub invariant-loop-i : goal.invariant-loop-i

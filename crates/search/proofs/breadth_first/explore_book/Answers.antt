@@ -1,6 +1,5 @@
 -- `explore_book` meets its contract: the rows of the book are a table with the book's machine.
 use Rattle.search.proofs.TableRows.{part-rows, part_count, part-states}
-use borrow.Author.Rules.{rules}
 use Rattle.search.proofs.breadth_first.explore_book.Goals as goal
 
 pub explore-requires : goal.explore-requires

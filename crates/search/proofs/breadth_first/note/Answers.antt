@@ -2,7 +2,6 @@
 use Prim.Native.Nat.{◌+◌, ◌≤◌, ◌<◌}
 use native.Mathlib.Omega.{arith}
 use lib.ListN.{length}
-use borrow.Author.Rules.{rules}
 use Rattle.search.proofs.Found.{noted_known, noted-room, noted-new}
 use Rattle.search.proofs.breadth_first.note.Goals.{Else-numbers-state-gt0}
 use Rattle.search.proofs.breadth_first.note.Goals as goal

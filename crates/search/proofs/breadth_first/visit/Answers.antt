@@ -1,10 +1,10 @@
 -- `visit` meets its contract: the codes below c have been tried from the state at place i.
-use mathlib.Core.Path.{◌≡◌, refl}
+use mathlib.Core.Path.{refl}
 use Prim.Native.Nat.{◌+◌, ◌-◌, ◌*◌, ◌≤◌}
 use native.Mathlib.Omega.{arith}
 use lib.ListN.{length}
 use borrow.Author.Rules.{rules}
-use Rattle.search.proofs.SearchTurns.{Tried, tried_begun, tried-low, tried-row, tried-asks, tried-turn, tried-done}
+use Rattle.search.proofs.SearchTurns.{tried_begun, tried-low, tried-row, tried-asks, tried-turn, tried-done}
 use Rattle.search.proofs.breadth_first.visit.Goals.{After-wide}
 use Rattle.search.proofs.breadth_first.visit.Goals as goal
 
@@ -32,7 +32,7 @@ note-k-requires c =
     let s = c in
     let w = c.wide in
     let all = tried-asks s.requires.small_table.0 s.requires.small_table.1 c.loop-c.invariant.0 c.loop-c-test.true w.result w.ensures.0 _ c.wide-in-loop-c.ensures.0 (omega (arith, s.requires.arrays.1, c.loop-c.invariant.3)) in
-    record { arrays = all.0; state_in_bounds = all.1.0; code_in_bounds = all.1.1; }
+    record { arrays = all.0; state_in_bounds = all.1.0; code_in_bounds = all.1.1 }
 
 pub loop-c-preserved : goal.loop-c-preserved
 loop-c-preserved c =

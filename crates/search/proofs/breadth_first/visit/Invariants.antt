@@ -1,9 +1,7 @@
-use mathlib.Core.Path.{◌≡◌, refl}
-use Prim.Native.Nat.{◌+◌, ◌-◌, ◌*◌, ◌≤◌}
-use native.Mathlib.Omega.{arith}
+use mathlib.Core.Path.{◌≡◌}
+use Prim.Native.Nat.{◌-◌}
 use lib.ListN.{length}
-use borrow.Author.Rules.{rules}
-use Rattle.search.proofs.SearchTurns.{Tried, tried_begun, tried-low, tried-row, tried-asks, tried-turn, tried-done}
+use Rattle.search.proofs.SearchTurns.{Tried}
 use Rattle.search.proofs.breadth_first.visit.Given as goal
 
 abbrev pub invariant-loop-c : goal.invariant-loop-c

@@ -1,7 +1,6 @@
 -- `history_length` meets its contract: n codes lead from place k to place i.
 use native.Mathlib.Omega.{arith}
-use Rattle.search.proofs.Trails.{Counted, counted_begun, counted-few, counted-turn, counted-done, parent-low}
-use borrow.Author.Rules.{rules}
+use Rattle.search.proofs.Trails.{counted_begun, counted-few, counted-turn, counted-done, parent-low}
 use Rattle.search.proofs.trail.history_length.Goals as goal
 
 pub loop-k-init : goal.loop-k-init

@@ -1,6 +1,4 @@
-use native.Mathlib.Omega.{arith}
-use Rattle.search.proofs.Trails.{Counted, counted_begun, counted-few, counted-turn, counted-done, parent-low}
-use borrow.Author.Rules.{rules}
+use Rattle.search.proofs.Trails.{Counted}
 use Rattle.search.proofs.trail.history_length.Given as goal
 
 abbrev pub invariant-loop-k : goal.invariant-loop-k

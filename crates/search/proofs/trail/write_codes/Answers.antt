@@ -1,7 +1,6 @@
 -- `write_codes` meets its contract: the codes from place j of the buffer on are written, those that lead to place k are to come.
-use borrow.Author.Rules.{rules}
 use native.Mathlib.Omega.{arith}
-use Rattle.search.proofs.Trails.{Writing, writing-begun, writing-some, writing-few, writing-turn, writing-done, parent-low}
+use Rattle.search.proofs.Trails.{writing-begun, writing-some, writing-few, writing-turn, writing-done, parent-low}
 use Rattle.search.proofs.trail.write_codes.Goals as goal
 
 pub loop-k-init : goal.loop-k-init

@@ -1,6 +1,4 @@
-use borrow.Author.Rules.{rules}
-use native.Mathlib.Omega.{arith}
-use Rattle.search.proofs.Trails.{Writing, writing-begun, writing-some, writing-few, writing-turn, writing-done, parent-low}
+use Rattle.search.proofs.Trails.{Writing}
 use Rattle.search.proofs.trail.write_codes.Given as goal
 
 abbrev pub invariant-loop-k : goal.invariant-loop-k

@@ -1,6 +1,5 @@
 -- `Situation::start` meets its contract.
 use mathlib.Core.Path.{ap, ◌∙◌}
-use borrow.Author.Rules.{rules}
 use Rattle.definitions.specs.Situation.{insert}
 use Rattle.situation.proofs.Situation.start.Goals as goal
 

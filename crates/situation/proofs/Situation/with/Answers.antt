@@ -1,5 +1,4 @@
 -- `Situation::with` meets its contract.
-use borrow.Author.Rules.{rules}
 use Rattle.definitions.proofs.Sets.{one_shifted}
 use Rattle.situation.proofs.Situation.with.Goals as goal
 

@@ -1,5 +1,4 @@
 -- `policy::shape::Shape::of` meets its contract.
-use borrow.Author.Rules.{rules}
 use Rattle.policy.proofs.shape.Shape.of.Goals as goal
 
 pub returns : goal.returns
