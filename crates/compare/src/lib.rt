@@ -16,7 +16,7 @@ use search::write_history;
 
 // What comparing returns: the number of the row that refuses the call, that the same histories are possible in both books, or the length of the
 // earliest history that is possible in just one, which is written to the buffer.
-#[derive(Drop)]
+#[derive(Clone, Copy)]
 pub enum Compared {
     Refused(usize),
     Same,

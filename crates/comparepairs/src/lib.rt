@@ -18,14 +18,14 @@ use search::put;
 
 // What trying the codes of a pair shows: how many pairs are queued by then, and the first code that just one of its states can take; the width if there
 // is none.
-#[derive(Drop)]
+#[derive(Clone, Copy)]
 struct Tried {
     pairs: usize,
     code: usize,
 }
 
 // Where two books differ: nowhere, or by a code of a pair.
-#[derive(Drop)]
+#[derive(Clone, Copy)]
 pub enum Spot {
     Nowhere,
     At(usize, usize),

@@ -1,3 +1,2 @@
 -- Laws that belong to no one function.
 pub mod CallLists
-pub mod Ownership

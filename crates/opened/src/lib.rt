@@ -1,5 +1,5 @@
-// The opened book: the borrowed bytes of a book and the state reached so far. Each function calls that of `walk` on the bytes and the state, and its proof is a
-// walk of its MIR by hand. A caller that keeps the bytes and the state apart calls `walk`.
+// The opened book: the borrowed bytes of a book and the state reached so far. Each function calls that of `walk` on the bytes and the state. A caller that keeps
+// the bytes and the state apart calls `walk`.
 #![tactic(auto)]
 
 ghost use Rattle.std.specs.Prelude.{◌≡◌};
@@ -9,7 +9,7 @@ ghost use Rattle.opened.specs.OpenedCalls.{open_of, step_of};
 
 use walk::Told;
 
-#[derive(Drop)]
+#[derive(Clone, Copy)]
 pub struct OpenedBook<'a> {
     pub bytes: &'a [u8],
     pub state: usize,
@@ -17,7 +17,7 @@ pub struct OpenedBook<'a> {
 
 // What opening and a step answer: the number of the row that refused the call, 0 for none, beside the book. A book whose opening is refused has state 0,
 // and every later call answers the same number.
-#[derive(Drop)]
+#[derive(Clone, Copy)]
 pub struct Opened<'a> {
     pub number: usize,
     pub book: OpenedBook<'a>,

@@ -19,7 +19,7 @@ use depths::find_depths;
 use line::write_line;
 
 // What writing a page returns: the number of the row that refuses the call, or how many bytes were written.
-#[derive(Drop)]
+#[derive(Clone, Copy)]
 pub enum Paged {
     Refused(usize),
     Written(usize),

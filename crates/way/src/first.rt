@@ -10,7 +10,7 @@ use book::{entry, states};
 use search::{begin, note, write_codes};
 
 // What `way` returns: the number of the row that refuses the call, that no history leads there, or how many codes the earliest one has.
-#[derive(Drop)]
+#[derive(Clone, Copy)]
 pub enum Shown {
     Refused(usize),
     NoHistory,
@@ -18,7 +18,7 @@ pub enum Shown {
 }
 
 // How many states are found, and whether the last of them is a goal.
-#[derive(Drop)]
+#[derive(Clone, Copy)]
 struct Visited {
     found: usize,
     hit: bool,
@@ -75,7 +75,7 @@ fn visit_for(
 
 // The states that a search finds after so many codes, as far as they are still to be visited: those before place `end` after `length` codes, and those from it on
 // after one more.
-#[derive(Drop)]
+#[derive(Clone, Copy)]
 struct Level {
     length: usize,
     end: usize,
@@ -96,7 +96,7 @@ fn next_level(level: Level, i: usize, n: usize) -> Level
 }
 
 // A state by its number among those found, counted from 1, and how many codes lead to it.
-#[derive(Drop)]
+#[derive(Clone, Copy)]
 struct First {
     number: usize,
     length: usize,
