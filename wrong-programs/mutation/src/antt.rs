@@ -89,10 +89,9 @@ pub fn joined(tokens: &[Token]) -> String {
     words.join(" ")
 }
 
-/// The file of a module, as `Rattle·definitions·specs.specs.Bytes`, below `crates/`.
+/// The file of a module, as `Rattle.definitions.specs.Bytes`, below `crates/`.
 fn path_of(module: &str) -> Option<String> {
-    let (library, rest) = module.strip_prefix("Rattle·")?.split_once('.')?;
-    let name = library.split('·').next()?;
+    let (name, rest) = module.strip_prefix("Rattle.")?.split_once('.')?;
     let inner = rest.strip_prefix("specs.")?;
     Some(format!("{name}/specs/{}.antt", inner.replace('.', "/")))
 }
@@ -121,8 +120,12 @@ impl File {
             let Some(first) = words.first().map(|t| t.text.clone()) else {
                 continue;
             };
+            if first == "use" {
+                file.import(&words);
+                continue;
+            }
+            let words = file.with_fields(words);
             match first.as_str() {
-                "use" => file.import(&words),
                 "unfolding" => {}
                 "pub" if words.get(1).is_some_and(|t| t.text == "mod") => {}
                 "pub" if words.get(1).is_some_and(|t| t.text == "data") => {}
@@ -134,6 +137,26 @@ impl File {
             }
         }
         file
+    }
+
+    /// The tokens with each field by itself: `m.next` is `m` and `.next`. A name of a module that is named as a whole, as `B.states`, stays one token.
+    fn with_fields(&self, words: Vec<Token>) -> Vec<Token> {
+        let mut found = Vec::new();
+        for word in words {
+            let head = word.text.split('.').next().unwrap_or_default();
+            let names_module = self.modules.iter().any(|(name, _)| name == head);
+            if head.is_empty() || word.text.ends_with('.') || names_module {
+                found.push(word);
+                continue;
+            }
+            let mut at = word.at.start;
+            for (i, part) in word.text.split('.').enumerate() {
+                let to = at + part.len() + usize::from(i > 0);
+                found.push(token(&self.text, at..to));
+                at = to;
+            }
+        }
+        found
     }
 
     fn import(&mut self, words: &[Token]) {

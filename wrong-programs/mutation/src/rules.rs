@@ -104,11 +104,8 @@ fn siblings(word: &str) -> &'static [&'static str] {
 
 fn module_of(word: &str) -> Option<&'static str> {
     match word {
-        "ltb" | "leb" | "eqb" => Some("lib.Dec"),
-        "<" | "≤" | "+" | "-" | "*" | "/" | "%" => Some("Prim.Native.Nat"),
-        "&&" | "||" | "true" | "false" => Some("mathlib.Core.Bool"),
-        "⊎" => Some("mathlib.Core.Logic"),
-        "take" | "drop" => Some("lib.ListN"),
+        "ltb" | "leb" | "eqb" | "<" | "≤" | "+" | "-" | "*" | "/" | "%" | "&&" | "||" | "true"
+        | "false" | "⊎" | "take" | "drop" => Some("Rattle.std.specs.Prelude"),
         _ => None,
     }
 }
@@ -133,7 +130,7 @@ impl Rules<'_> {
 
     /// The import that makes a name known, if it is not.
     fn import_of(&self, word: &str) -> Option<String> {
-        let infix = format!("_{word}_");
+        let infix = format!("◌{word}◌");
         let name = if word.chars().all(|c| c.is_alphanumeric()) {
             word
         } else {
@@ -221,11 +218,7 @@ impl Rules<'_> {
             if words[k].text == "λ" {
                 while k + 1 < i && !words[k].text.ends_with('.') {
                     k += 1;
-                    if words[k]
-                        .text
-                        .chars()
-                        .all(|c| c.is_alphanumeric() || c == '.')
-                    {
+                    if words[k].text.chars().all(|c| in_name(c) || c == '.') {
                         scope.push((words[k].text.trim_end_matches('.').to_string(), None));
                     }
                 }
@@ -300,7 +293,7 @@ fn binding_tokens(words: &[Token]) -> HashSet<usize> {
                     let names = i + 1..colon;
                     if words[names.clone()]
                         .iter()
-                        .all(|t| t.text.chars().all(char::is_alphanumeric))
+                        .all(|t| t.text.chars().all(in_name))
                     {
                         found.extend(names);
                     }
@@ -313,6 +306,10 @@ fn binding_tokens(words: &[Token]) -> HashSet<usize> {
         }
     }
     found
+}
+
+fn in_name(c: char) -> bool {
+    c.is_alphanumeric() || c == '_'
 }
 
 fn numeral(word: &str) -> Option<u64> {

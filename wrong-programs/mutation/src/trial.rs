@@ -221,15 +221,19 @@ fn tried(folder: &Path, trial: &Trial) -> Option<Outcome> {
     fs::write(&place, trial.text()).expect("the change is written");
     let (proved, said) = prover(folder, trial.crate_name());
     fs::write(&place, &trial.file.text).expect("the change is taken back");
-    let specs = format!("crates/{}/specs/", trial.crate_name());
-    let untyped = said
-        .lines()
-        .any(|l| l.contains(&specs) && l.contains(": error: "));
+    let untyped = errors(&said).any(|place| place.starts_with("specs/"));
     match (proved, untyped) {
         (true, _) => None,
         (false, true) => Some(Outcome::Untyped),
         (false, false) => Some(Outcome::ByLaw),
     }
+}
+
+/// The places of the errors that the prover tells, as `specs/Bytes.antt:7:13`, by the path in the crate.
+fn errors(said: &str) -> impl Iterator<Item = &str> {
+    said.lines()
+        .filter_map(|line| line.split_once(": error: "))
+        .map(|(place, _)| place.strip_prefix("./").unwrap_or(place))
 }
 
 /// Finds the changes that do not type-check, those of one file in one run.
@@ -245,16 +249,11 @@ fn sort_out(copy: &Copy, trials: &[&Trial], log: &Log) {
         fs::write(&place, &all.text).expect("the changes are written");
         let (_, said) = prover(&folder, trials[0].crate_name());
         fs::write(&place, &trials[0].file.text).expect("the changes are taken back");
-        let wrong: Vec<usize> = said
-            .lines()
-            .filter(|l| l.contains(": error: "))
-            .filter_map(|l| {
-                l.split_once(&format!("crates/{path}:"))?
-                    .1
-                    .split(':')
-                    .next()?
-                    .parse()
-                    .ok()
+        let inner = path.split_once('/').map_or(path, |(_, inner)| inner);
+        let wrong: Vec<usize> = errors(&said)
+            .filter_map(|place| {
+                let rest = place.strip_prefix(inner)?.strip_prefix(':')?;
+                rest.split(':').next()?.parse().ok()
             })
             .collect();
         let mut untyped = 0;
@@ -286,33 +285,26 @@ fn without_cases(proofs: &Path) {
     fs::remove_file(proofs.join("Cases.antt")).expect("the table of cases is removed");
 }
 
+/// Copies the crates without what rt keeps of them: it takes over by itself what a check in another folder has kept.
 fn copy(root: &Path, folder: &Path) {
     fs::create_dir_all(folder).expect("a folder for a copy");
-    let parts = [
-        "crates",
-        "crates.txt",
-        "target/rlib",
-        "target/stamp",
-        "target/inc",
-    ]
-    .into_iter()
-    .filter(|p| root.join(p).exists());
-    let done = Command::new("cp")
-        .args(["-r", "--parents"])
-        .args(parts)
+    let done = Command::new("sh")
+        .args([
+            "-c",
+            "tar -c --exclude='crates/*/out' crates crates.txt | tar -x -C \"$0\"",
+        ])
         .arg(folder)
         .current_dir(root)
         .status()
-        .expect("cp");
+        .expect("sh");
     assert!(done.success(), "the repository is copied");
 }
 
 /// Whether the prover lets a crate pass, and its words. It takes what an earlier run has checked and the change does not touch.
 fn prover(folder: &Path, name: &str) -> (bool, String) {
     let done = Command::new("rt")
-        .args(["dev", name])
-        .env("RT_JOBS", "1")
-        .current_dir(folder)
+        .args(["check", "--jobs", "1"])
+        .current_dir(folder.join("crates").join(name))
         .output()
         .expect("rt");
     (

@@ -26,7 +26,7 @@ fn level(word: &str) -> Option<usize> {
 }
 
 /// Functions of two arguments whose order says nothing.
-const COMMUTATIVE: [&str; 6] = ["eqb", "max", "bitOr", "union", "sameList", "inOne"];
+const COMMUTATIVE: [&str; 6] = ["eqb", "max", "bit_or", "union", "same_list", "in_one"];
 
 fn is_separator(word: &str) -> bool {
     matches!(word, "let" | "in" | "=" | ";" | "," | ":" | "λ")
@@ -150,9 +150,15 @@ impl Rules<'_> {
                 part,
                 at.clone(),
                 "none".to_string(),
-                (!known).then(|| "use mathlib.Core.Option.{none}".to_string()),
+                (!known).then(|| "use Rattle.std.proofs.Math.Option.{none}".to_string()),
             );
         }
+        // an argument in brackets, or with a field
+        let compound = |i: usize| {
+            let after = part.tokens.get(atoms[i].start + 1);
+            texts[i].starts_with('(')
+                || (atoms[i].len() > 1 && after.is_some_and(|t| t.text.starts_with('.')))
+        };
         for i in 1..atoms.len() {
             if i + 1 < atoms.len() && !COMMUTATIVE.contains(&head) {
                 let both = atoms[i].start..atoms[i + 1].end;
@@ -162,8 +168,7 @@ impl Rules<'_> {
                 .into_iter()
                 .filter(|&j| j > 0 && j < atoms.len())
             {
-                let bracket = texts[i].starts_with('(') || texts[j].starts_with('(');
-                if bracket {
+                if compound(i) || compound(j) {
                     self.replace(part, atoms[i].clone(), &texts[j]);
                 }
             }

@@ -100,6 +100,18 @@ fn neighbouring_equations_and_fields() {
 }
 
 #[test]
+fn fields() {
+    made(
+        "use Rattle.definitions.specs.Book as B\n\nabbrev pub f : M → M → ℕ\nf m n = g m.width (B.states n)",
+        &[
+            "f m n = g n.width (B.states n)",
+            "f m n = g (B.states n) m.width",
+            "f m n = g m.width m.width",
+        ],
+    );
+}
+
+#[test]
 fn names_of_one_type() {
     let text = "abbrev pub g : ℕ → ℕ\ng a = a\n\nabbrev pub h : ℕ → ℕ\nh a = a\n\nabbrev pub f : ℕ → ℕ\nf a = g a";
     made(text, &["f a = h a"]);
