@@ -18,17 +18,13 @@ use Rattle.definitions.proofs.Written.{length_taken}
 use Rattle.definitions.proofs.Demands.{page-right}
 use Rattle.build.specs.BuiltAnswer.{built_answer}
 use Rattle.build.specs.declared.Built.{Built}
-use Rattle.build.specs.declared.Built.TheVariants as Built
 use Rattle.page.specs.PageAnswer.{paged_answer}
 use Rattle.page.specs.declared.Paged.{Paged}
-use Rattle.page.specs.declared.Paged.TheVariants as Paged
 use Rattle.way.specs.ShownAnswer.{shown_answer}
 use Rattle.way.specs.declared.first.Shown.{Shown}
-use Rattle.way.specs.declared.first.Shown.TheVariants as Shown
 use Rattle.way.proofs.WayAnswers.{way_small}
 use Rattle.compare.specs.ComparedAnswer.{compared_answer}
 use Rattle.compare.specs.declared.Compared.{Compared}
-use Rattle.compare.specs.declared.Compared.TheVariants as Compared
 use Rattle.compare.proofs.ComparedAnswer.{difference_small}
 use Rattle.packing.proofs.RefusalBounds.{book_small}
 use Rattle.packing.specs.PackedBounds.{BuiltWithin, PagedWithin, ShownWithin, ComparedWithin}

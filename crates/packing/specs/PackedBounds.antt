@@ -1,13 +1,9 @@
 -- Answers whose numbers are at most the given ones: what makes them fit into a packed number, and their histories into buffers.
 use Rattle.std.specs.Prelude.{ℕ, ◌≤◌}
 use Rattle.build.specs.declared.Built.{Built}
-use Rattle.build.specs.declared.Built.TheVariants as Built
 use Rattle.compare.specs.declared.Compared.{Compared}
-use Rattle.compare.specs.declared.Compared.TheVariants as Compared
 use Rattle.page.specs.declared.Paged.{Paged}
-use Rattle.page.specs.declared.Paged.TheVariants as Paged
 use Rattle.way.specs.declared.first.Shown.{Shown}
-use Rattle.way.specs.declared.first.Shown.TheVariants as Shown
 
 -- a book of at most so many bytes
 abbrev pub BuiltWithin : ℕ → Built → Type 0

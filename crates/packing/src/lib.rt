@@ -1,4 +1,6 @@
 // Answers packed into one number. A history is packed as its length, and the contract holds for every buffer that has room for that history.
+#![tactic(auto)]
+
 ghost use Rattle.std.specs.Prelude.{◌≡◌, List, ℕ, ◌*◌, ◌^◌, ◌<◌, length};
 ghost use Rattle.build.specs.BuiltAnswer.{built_answer};
 ghost use Rattle.page.specs.PageAnswer.{paged_answer};
