@@ -1,4 +1,6 @@
 // The text for a policy: a line with the number that refuses it, or a text of its book.
+#![tactic(auto)]
+
 ghost use Rattle.std.specs.Prelude.{◌≡◌, ◌≤◌, length};
 ghost use Rattle.build.specs.BuiltAnswer.{built_answer};
 ghost use Rattle.text.specs.Put.{Put};

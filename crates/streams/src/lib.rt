@@ -9,7 +9,7 @@ use std::io;
 use std::io::{Print, Read};
 
 // How many bytes were read, or that a read failed.
-#[derive(Drop)]
+#[derive(Clone, Copy)]
 pub enum Input {
     Length(usize),
     Failed,
