@@ -8,4 +8,4 @@ pack_build-requires c = built_within _ _ c.build.result c.build.ensures.result_v
 
 pub returns : goal.returns
 returns c =
-    let called = c.build in record { value = rw (← called.ensures.result_value) c.pack_build.ensures; book_after = called.ensures.book_after; }
+    let called = c.build in record { value = rw (← called.ensures.result_value) c.pack_build.ensures; book_after = called.ensures.book_after }

@@ -14,4 +14,4 @@ pack_compare-requires c = (within (goal.at.pack_compare-requires c).After-compar
 
 pub returns : goal.returns
 returns c =
-    let called = c.compare in record { value = rw (← called.ensures.history_after) (c.pack_compare.ensures called.new.history (within (goal.at.returns c).After-compare).1); history_after = called.ensures.history_after_2; }
+    let called = c.compare in record { value = rw (← called.ensures.history_after) (c.pack_compare.ensures called.new.history (within (goal.at.returns c).After-compare).1); history_after = called.ensures.history_after_2 }

@@ -8,4 +8,4 @@ pack_page-requires c = paged_within _ _ c.page.result c.page.ensures.result_valu
 
 pub returns : goal.returns
 returns c =
-    let called = c.page in record { value = rw (← called.ensures.result_value) c.pack_page.ensures; page_after = called.ensures.page_after; }
+    let called = c.page in record { value = rw (← called.ensures.result_value) c.pack_page.ensures; page_after = called.ensures.page_after }

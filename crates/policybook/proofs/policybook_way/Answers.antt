@@ -14,4 +14,4 @@ pack_way-requires c = (within (goal.at.pack_way-requires c).After-way).0
 
 pub returns : goal.returns
 returns c =
-    let called = c.way in record { value = rw (← called.ensures.history_after) (c.pack_way.ensures called.new.history (within (goal.at.returns c).After-way).1); history_after = called.ensures.history_after_2; }
+    let called = c.way in record { value = rw (← called.ensures.history_after) (c.pack_way.ensures called.new.history (within (goal.at.returns c).After-way).1); history_after = called.ensures.history_after_2 }
