@@ -27,7 +27,7 @@ module _ (m : Machine) (t : Reached) (found : List Reached) where
   pub visit_longer : (c k : ℕ) → length found ≤ k → k < length (visit m t c found) → length (reached_history (visit m t c found) k) ≡ suc (length t.history)
   visit_longer zero k l b = absurd (omega arith)
   visit_longer (suc c) k l b =
-      add_keeps Longer before h (step m t.state c) (visit_longer c) (λ _ _ i low in_List. at_end before u OneMore (λ j inside from. visit_longer c j from inside) (λ _. longer) i in_List low) k l b
+      add_keeps Longer before h (step m t.state c) (visit_longer c) (λ _ _ i low in_list. at_end before u OneMore (λ j inside from. visit_longer c j from inside) (λ _. longer) i in_list low) k l b
     where
       before : List Reached
       before = visit m t c found

@@ -1,5 +1,5 @@
 -- Blocking in a book that the checks pass: the test of a state, that no state which events lead to from it answers a request, says that no request is
--- answered after the history that led to the state, now or after any list of events. It ends in blocked-to and blocked-from.
+-- answered after the history that led to the state, now or after any list of events. It ends in blocked_to and blocked-from.
 use mathlib.Core.Path.{◌≡◌, refl, sym, ap, ◌∙◌}
 use mathlib.Core.Bool.{Bool, true, false, false≢true, true≢false, ◌||◌}
 use mathlib.Core.Logic.{◌↔◌}

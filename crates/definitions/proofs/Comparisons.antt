@@ -1,5 +1,5 @@
 -- The comparison of two books that pass and have one frame is right: same exactly when the same histories are possible in both, and else the earliest
--- history possible in just one, whose length is 1 to n + n' - 1. It ends in compare-right.
+-- history possible in just one, whose length is 1 to n + n' - 1. It ends in compare_right.
 use mathlib.Core.Path.{◌≡◌, sym, ap, ◌∙◌}
 use mathlib.Core.Logic.{◌↔◌}
 use mathlib.Core.List.{List}

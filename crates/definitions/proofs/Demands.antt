@@ -18,9 +18,9 @@ use Rattle.definitions.specs.Demands.{FindingsAreRight, Demand2, Demand3, WayIsR
 use Rattle.definitions.proofs.Accepted.{book-passed}
 use Rattle.definitions.proofs.BookOf.{built_frame, built_events, built_requests, built_histories, built_passes, frames-same, books-same}
 use Rattle.definitions.proofs.SameHistories.{findings_along, comparison_along, way_along}
--- verdict-right : (b : List ℕ) → book_refusal b ≡ 0 → VerdictIsRight b
+-- verdict_right : (b : List ℕ) → book_refusal b ≡ 0 → VerdictIsRight b
 pub use Rattle.definitions.proofs.Verdicts.{verdict_right}
--- compare-right : (b d : List ℕ) → book_refusal b ≡ 0 → book_refusal d ≡ 0 → frame b ≡ frame d → CompareIsRight b d
+-- compare_right : (b d : List ℕ) → book_refusal b ≡ 0 → book_refusal d ≡ 0 → frame b ≡ frame d → CompareIsRight b d
 pub use Rattle.definitions.proofs.Comparisons.{compare_right}
 -- page-right : (b : List ℕ) → book_refusal b ≡ 0 → PageIsRight b
 pub use Rattle.definitions.proofs.Pages.{page-right}
@@ -34,7 +34,7 @@ pub use Rattle.definitions.proofs.StartSituation.{start_right}
 pub use Rattle.definitions.proofs.SameRules.{starts-right}
 -- row11-right : (p : List ℕ) → file_refusal p ≡ 0 → Row11IsRight p
 pub use Rattle.definitions.proofs.Row11.{row11-right}
--- levels-right : (p : List ℕ) → LevelsAreRight p
+-- levels_right : (p : List ℕ) → LevelsAreRight p
 pub use Rattle.definitions.proofs.Levels.{levels_right}
 
 -- the findings on the book, over the policy's histories, events and requests

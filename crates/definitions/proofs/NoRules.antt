@@ -1,5 +1,5 @@
 -- A policy without rules: no variable has a bound above 0, so that there is one valuation and one situation; every list of events is possible, and nothing else.
--- Two with equal frames have the same possible histories and so one book, which has one state. It ends in no-rules-pass, no-rules-right and no-rules-share.
+-- Two with equal frames have the same possible histories and so one book, which has one state. It ends in no_rules_pass, no-rules-right and no_rules_share.
 use mathlib.Core.Path.{◌≡◌, refl, sym, ap, ap₂, ◌∙◌, subst}
 use mathlib.Core.Bool.{true, false, true≢false}
 use mathlib.Core.Logic.{◌↔◌}

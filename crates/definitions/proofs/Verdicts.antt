@@ -1,5 +1,5 @@
 -- The three findings on a book that passes, built here or not, are right: over all histories possible in it, each with the earliest history, which has
--- fewer codes than the book has states. It ends in verdict-right.
+-- fewer codes than the book has states. It ends in verdict_right.
 use mathlib.Core.Path.{◌≡◌, refl, ap, ◌∙◌, subst}
 use mathlib.Core.Bool.{Bool, true, not}
 use mathlib.Core.List.{List, [], ◌∷◌}

@@ -55,7 +55,7 @@ module _ (l hints : List ℕ) (x : ℕ) (H : Hinted l hints) where
           absurd (omega (arith, H.hint k hit.0, none, ap (λ (y : ℕ). byte hints (y % 251)) here))
 
   -- the state is put in, and leaves its number as a hint
-  module _ (number : ℕ) (Some-number : 1 ≤ number) (room : x % 251 < length hints) where
+  module _ (number : ℕ) (some_number : 1 ≤ number) (room : x % 251 < length hints) where
     kept : (y : ℕ) → 1 ≤ byte hints y → Dec (y ≡ x % 251) → 1 ≤ byte (set hints (x % 251) number) y
     kept y h (yes e) = omega (arith, ap (byte (set hints (x % 251) number)) e, get_or-set_same hints (x % 251) number 0 room)
     kept y h (no e) = omega (arith, get_or-set_other hints (x % 251) y number 0 e)
@@ -68,7 +68,7 @@ module _ (l hints : List ℕ) (x : ℕ) (H : Hinted l hints) where
       where
         go : (k < length l) ⊎ (k ≡ length l) → 1 ≤ byte (set hints (x % 251) number) (get_or (l ++ (x ∷ [])) k 0 % 251)
         go (inl b) = rw (get_or-append l (x ∷ []) 0 k b) (old.hint k b)
-        go (inr e) = rw (get_or_at l x [] 0 k (sym e), get_or-set_same hints (x % 251) number 0 room) Some-number
+        go (inr e) = rw (get_or_at l x [] 0 k (sym e), get_or-set_same hints (x % 251) number 0 room) some_number
 
     new : Hinted (l ++ (x ∷ [])) (set hints (x % 251) number)
     new = record { hint = last }

@@ -1,4 +1,6 @@
 // The library for C: build, verdict, compare, page, way and the test for equal bytes on byte slices, each answer one number.
+#![tactic(auto)]
+
 ghost use Rattle.std.specs.Prelude.{◌≡◌};
 ghost use Rattle.definitions.specs.Build.{build_answer, build_buffer};
 ghost use Rattle.definitions.specs.Verdict.{verdict_answer, verdict_buffers};
