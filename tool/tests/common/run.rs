@@ -52,16 +52,14 @@ pub fn shell(line: &str, folder: &Folder) -> Ran {
     Ran::of(command.current_dir(&folder.path).output().expect("the shell runs"))
 }
 
-/// A folder of its own for a test, empty at first.
+/// A folder of its own for a test, empty at first and removed at the end. It is outside the repository, in which `rt ci` refuses the links that tests make.
 pub struct Folder {
     pub path: PathBuf,
 }
 
 impl Folder {
     pub fn new(name: &str) -> Folder {
-        let path = PathBuf::from(env!("CARGO_TARGET_TMPDIR")).join(name);
-        // It is there from an earlier run, or it is not.
-        let _ = fs::remove_dir_all(&path);
+        let path = std::env::temp_dir().join(format!("policybook-{}-{name}", std::process::id()));
         fs::create_dir_all(&path).expect("a folder");
         Folder { path }
     }
@@ -86,5 +84,11 @@ impl Folder {
         let mut names: Vec<String> = entries.map(|entry| name(entry).into_string().expect("a plain name")).collect();
         names.sort();
         names
+    }
+}
+
+impl Drop for Folder {
+    fn drop(&mut self) {
+        let _ = fs::remove_dir_all(&self.path);
     }
 }
