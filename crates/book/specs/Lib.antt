@@ -1,1 +1,2 @@
 pub mod Tellings
+pub mod Rows

@@ -1,60 +1,52 @@
-// What stands where in a book. Nothing here refuses a book: each function says what it relies on.
-ghost use Rattle.std.specs.Prelude.{◌≡◌, ◌≤◌, ◌<◌, length};
-ghost use Rattle.definitions.specs.Book as Book;
-ghost use Rattle.definitions.specs.Checked.{BookHeader, BookLayout};
+// A book that rows 12 to 14 let pass, and what stands where in it.
+ghost use Rattle.std.specs.Prelude.{◌≡◌, ◌≤◌, ◌<◌};
+ghost use Rattle.definitions.specs.Book as B;
+ghost use Rattle.definitions.specs.Checked.{BookPassed};
+ghost use Rattle.book.specs.Rows.{row_of};
 
-// E, the number of events.
-pub fn events(book: &[u8]) -> usize
-    requires { 12 ≤ length book.now }
-    ensures { result ≡ Book.events book.now }
-{
-    usize::from(book[5])
+use crate::header;
+
+// The bytes of a book, with the number of requests and the number of codes, which the bytes decide and every call needs.
+#[derive(Clone, Copy)]
+pub struct Book<'a> {
+    pub bytes: &'a [u8],
+    pub requests: usize,
+    pub width: usize,
+    pub ghost passed: { BookPassed bytes.now },
+    pub ghost requests_are: { requests ≡ B.requests bytes.now },
+    pub ghost width_is: { width ≡ B.width bytes.now },
 }
 
-// n, the number of states.
-pub fn states(book: &[u8]) -> usize
-    requires { 12 ≤ length book.now }
-    ensures { result ≡ Book.states book.now }
-{
-    usize::from(book[11])
-}
-
-// Q, the product of the value counts.
-pub fn requests(book: &[u8]) -> usize
-    requires { (12 ≤ length book.now) × (Book.fields book.now ≤ 4) }
-    ensures { result ≡ Book.requests book.now }
-{
-    let fields = usize::from(book[6]);
-    let mut product = 1;
-    for f in 0..fields {
-        product *= usize::from(book[7 + f]);
+impl<'a> Book<'a> {
+    // E, the number of events.
+    pub fn events(self) -> usize
+        ensures { result ≡ B.events self.entry.bytes.now }
+    {
+        header::events(self.bytes)
     }
-    product
-}
 
-// w, the number of codes.
-pub fn width(book: &[u8]) -> usize
-    requires { BookLayout book.now }
-    ensures { result ≡ Book.width book.now }
-{
-    width_from(book, requests(book))
-}
+    // n, the number of states.
+    pub fn states(self) -> usize
+        ensures { result ≡ B.states self.entry.bytes.now }
+    {
+        header::states(self.bytes)
+    }
 
-// The same, from Q.
-pub fn width_from(book: &[u8], requests: usize) -> usize
-    requires { (12 ≤ length book.now) × BookHeader book.now × (requests ≡ Book.requests book.now) }
-    ensures { result ≡ Book.width book.now }
-{
-    events(book) + 2 * requests
-}
+    // Row s, with w entries.
+    pub fn row(self, s: usize) -> &'a [u8]
+        requires { (1 ≤ s) × (s ≤ B.states self.bytes.now) }
+        ensures { result.now ≡ row_of self.entry.bytes.now s }
+    {
+        let start = 12 + (s - 1) * self.width;
+        &self.bytes[start..start + self.width]
+    }
 
-// Entry c of row s: the state after code c, 0 if it is not possible. The caller hands in the width, which it takes once.
-pub fn entry(book: &[u8], width: usize, s: usize, c: usize) -> usize
-    requires book_layout { BookLayout book.now }
-    requires width_value { (width ≡ Book.width book.now) × (c < width) }
-    requires le_s { (1 ≤ s) × (s ≤ Book.states book.now) }
-    ensures { result ≡ Book.entry book.now s c }
-{
-    let at = 12 + (s - 1) * width + c;
-    usize::from(book[at])
+    // Entry c of row s: the state after code c, 0 if it is not possible.
+    pub fn entry(self, s: usize, c: usize) -> usize
+        requires s_is_a_state { (1 ≤ s) × (s ≤ B.states self.bytes.now) }
+        requires c_is_a_code { c < B.width self.bytes.now }
+        ensures { result ≡ B.entry self.entry.bytes.now s c }
+    {
+        usize::from(self.bytes[12 + (s - 1) * self.width + c])
+    }
 }

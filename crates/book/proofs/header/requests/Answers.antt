@@ -2,10 +2,10 @@
 use native.Mathlib.Omega.{arith}
 use Rattle.definitions.specs.Book.{count}
 use Rattle.definitions.proofs.Products.{multiplied_none, multiplied_more, next_fits}
-use Rattle.book.proofs.layout.requests.Goals as goal
+use Rattle.book.proofs.header.requests.Goals as goal
 
 pub loop-f-init : goal.loop-f-init
-loop-f-init c = multiplied_none (count c.args.book.now)
+loop-f-init c = multiplied_none (count c.args.bytes.now)
 
 pub overflow_mul-product : goal.overflow_mul-product
 overflow_mul-product c =
@@ -15,4 +15,4 @@ overflow_mul-product c =
 pub loop-f-preserved : goal.loop-f-preserved
 loop-f-preserved c =
     let l = c.loop-f in
-    multiplied_more (count c.args.book.now) l.f l.product c.from-product.result l.invariant c.from-product.ensures (omega arith)
+    multiplied_more (count c.args.bytes.now) l.f l.product c.from-product.result l.invariant c.from-product.ensures (omega arith)
