@@ -1,13 +1,15 @@
 -- Row 14 in two tests: the greatest entry is at most n, and every event is possible.
-use mathlib.Core.Path.{◌≡◌, refl}
+use mathlib.Core.Path.{◌≡◌, refl, ◌∙◌}
 use mathlib.Core.Bool.{Bool, true, false}
 use mathlib.Core.Logic.{◌⊎◌, inl, inr}
 use mathlib.Core.List.{List}
 use Prim.Native.Nat.{ℕ, zero, suc, max, ◌+◌, ◌-◌, ◌*◌, ◌≤◌, ◌<◌}
 use native.Mathlib.Nat.{not-suc-le-zero}
 use native.Mathlib.Decide.{dec_lt}
+use native.Mathlib.Numerals.{add-one}
 use native.Mathlib.Omega.{arith}
-use lib.ListN.{length}
+use lib.ListN.{length, take, drop, get_or}
+use lib.Seq.{get_or-take, get_or-drop}
 use borrow.Author.Tests.{leb-true, le-leb}
 use Rattle.automaton.proofs.Below.{same_truth, below_suc, all_below_law, all-below_at}
 use Rattle.definitions.specs.Bytes.{byte}
@@ -18,14 +20,18 @@ use Rattle.definitions.specs.Checked.{BookLayout}
 use Rattle.definitions.proofs.Accepted.{entries-true, entries_hold_law}
 use Rattle.book.proofs.Places.{row_inside, entry_at, column_of}
 
+-- entry i of the n bytes from byte `at` on, as the code takes them
+pub entry_in_part : (b : List ℕ) (at n i : ℕ) → i < n → get_or (take (at + n - at) (drop at b)) i 0 ≡ byte b (at + i)
+entry_in_part b at n i l = let e : i < at + n - at = omega arith in get_or-take (at + n - at) (drop at b) i 0 e ∙ get_or-drop at b i 0
+
+pub entry_after_header : (b : List ℕ) (i : ℕ) → i < length b - 12 → get_or (take (length b - 12) (drop 12 b)) i 0 ≡ byte b (12 + i)
+entry_after_header b i l = get_or-take (length b - 12) (drop 12 b) i 0 l ∙ get_or-drop 12 b i 0
+
 -- ---- the greatest entry
 module _ (b : List ℕ) where
   -- one entry more
-  pub greatest_more : (at most : ℕ) → 12 ≤ at → most ≡ greatest b (at - 12) → max most (byte b at) ≡ greatest b (at + 1 - 12)
-  greatest_more at most l e =
-      let next : at + 1 - 12 ≡ suc (at - 12) = omega arith in
-      let same : 12 + (at - 12) ≡ at = omega arith in
-      rw (next, same, e)
+  pub greatest_more : (i most more : ℕ) → most ≡ greatest b i → more ≡ max most (byte b (12 + i)) → more ≡ greatest b (i + 1)
+  greatest_more i most more e h = rw add-one (rw e at h)
 
   greatest-above : (k j : ℕ) → j < k → byte b (12 + j) ≤ greatest b k
   greatest-above zero j l = absurd (not-suc-le-zero l)

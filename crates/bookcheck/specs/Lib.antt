@@ -1,2 +1,1 @@
-pub mod Layout
 pub mod Entries

@@ -1,232 +1,200 @@
 // Rows 12 to 14: what refuses a book. Each row has a test of its own; stated in definitions/specs/Refusal.antt (`book_checks`).
 #![tactic(auto)]
 
-ghost use Rattle.std.specs.Prelude.{◌≡◌, ◌+◌, ◌-◌, ◌*◌, ◌≤◌, eqb, length};
+ghost use Rattle.std.specs.Prelude.{◌≡◌, true, false, ◌+◌, ◌-◌, ◌*◌, ◌≤◌, length, MatchOption, IfOk};
 ghost use Rattle.automaton.specs.Below.{all_below, list_below};
-ghost use Rattle.definitions.specs.Book as Book;
-ghost use Rattle.definitions.specs.Bytes.{within as is_within};
-ghost use Rattle.definitions.specs.Refusal.{is_marked, count_holds, entries_hold, book_refusal};
-ghost use Rattle.bookcheck.specs.Layout.{header_requests, laid_out_width};
+ghost use Rattle.definitions.specs.Book as B;
+ghost use Rattle.definitions.specs.Refusal.{is_marked, count_holds, header_holds, layout_holds, entries_hold, book_refusal};
 ghost use Rattle.bookcheck.specs.Entries.{greatest as greatest_of, is_possible, events_possible, lesser};
-ghost use Rattle.definitions.specs.Checked.{BookHeader, BookLayout};
+ghost use Rattle.definitions.specs.Checked.{BookLayout};
+ghost use Rattle.refusal.specs.Refused.{refusal_in};
 
-use automaton::wide;
-use book::{events, requests, states, width_from};
+use book::{Book, header};
+use refusal::Refusal;
 
-// The number of the lowest row of 12 to 14 that refuses the book, 0 if none does.
-pub fn refusal(book: &[u8]) -> usize
-    ensures { result ≡ book_refusal book.now }
-{
-    if !is_marked(book) {
-        return 12;
-    }
-    let w = laid_out_width(book);
-    if w == 0 {
-        return 13;
-    }
-    if !entries_hold(book, w) {
-        return 14;
-    }
-    0
+// The bytes that row 13 lets pass, with the number of requests and the number of codes.
+#[derive(Clone, Copy)]
+struct Layout<'a> {
+    bytes: &'a [u8],
+    requests: usize,
+    width: usize,
+    ghost laid_out: { BookLayout bytes.now },
+    ghost requests_are: { requests ≡ B.requests bytes.now },
+    ghost width_is: { width ≡ B.width bytes.now },
 }
 
-fn within(low: usize, x: usize, high: usize) -> bool
-    ensures { result ≡ is_within low x high }
+// A book as it is read once it has passed the checks, or the refusal by the lowest row of 12 to 14 that turns the bytes down.
+pub fn check(bytes: &[u8]) -> Result<Book<'_>, Refusal>
+    ensures refusal { refusal_in result ≡ book_refusal bytes.now }
+    ensures bytes { IfOk result (λ book. book.bytes ≡ bytes.entry) }
 {
-    if x < low {
-        return false;
+    if !is_marked(bytes) {
+        return Err(Refusal::BookHeader);
     }
-    x <= high
+    let Some(layout) = lay_out(bytes) else {
+        return Err(Refusal::BookLayout);
+    };
+    if !entries_hold(layout) {
+        return Err(Refusal::BookEntry);
+    }
+    Ok(Book {
+        bytes,
+        requests: layout.requests,
+        width: layout.width,
+    })
 }
 
 // Row 12: the length of the header, the mark and the version.
-fn is_marked(book: &[u8]) -> bool
-    ensures { result ≡ is_marked book.now }
+fn is_marked(bytes: &[u8]) -> bool
+    ensures { result ≡ is_marked bytes.now }
 {
-    if book.len() < 12 {
-        return false;
-    }
-    let start = [0x42u8, 0x4F, 0x4B, 0, 1];
-    let mut i = 0;
-    while i < 5 {
-        if book[i] != start[i] {
-            return false;
-        }
-        i += 1;
-    }
-    true
+    bytes.len() >= 12 && bytes.starts_with(b"BOK\x00\x01")
 }
 
-// Row 13: the header, and the exact length. Returns w, the number of codes, where both hold, and else 0.
-fn laid_out_width(book: &[u8]) -> usize
-    requires { 12 ≤ length book.now }
-    ensures { result ≡ laid_out_width book.now }
+// Row 13: the header, and the exact length.
+fn lay_out(bytes: &[u8]) -> Option<Layout<'_>>
+    requires { 12 ≤ length bytes.now }
+    ensures { MatchOption result (layout_holds bytes.now ≡ false) (λ layout. (layout_holds bytes.now ≡ true) × (layout.bytes ≡ bytes.entry)) }
 {
-    let q = header_requests(book);
-    if q == 0 {
-        return 0;
+    let requests = requests_in_header(bytes)?;
+    let width = header::width(bytes, requests);
+    if bytes.len() != 12 + header::states(bytes) * width {
+        return None;
     }
-    let w = width_from(book, q);
-    if !is_exact(book, w) {
-        return 0;
-    }
-    w
+    Some(Layout {
+        bytes,
+        requests,
+        width,
+    })
 }
 
-// The ranges and the absent counts. Returns Q, the number of requests, where they hold, and else 0. This needs the first 12 bytes only.
-fn header_requests(book: &[u8]) -> usize
-    requires { 12 ≤ length book.now }
-    ensures { result ≡ header_requests book.now }
+// The ranges and the absent counts, by the first 12 bytes. Where they hold, Q, the number of requests.
+fn requests_in_header(bytes: &[u8]) -> Option<usize>
+    requires { 12 ≤ length bytes.now }
+    ensures { MatchOption result (header_holds bytes.now ≡ false) (λ q. (header_holds bytes.now ≡ true) × (q ≡ B.requests bytes.now)) }
 {
-    if 8 < events(book) {
-        return 0;
+    if header::events(bytes) > 8 {
+        return None;
     }
-    if !within(1, wide(book[6]), 4) {
-        return 0;
+    if !(1..=4).contains(&bytes[6]) {
+        return None;
     }
-    if !counts_hold(book) {
-        return 0;
+    if !counts_hold(bytes) {
+        return None;
     }
-    if !within(1, states(book), 127) {
-        return 0;
+    if !(1..=127).contains(&header::states(bytes)) {
+        return None;
     }
-    let q = requests(book);
-    if 64 < q {
-        return 0;
+    let requests = header::requests(bytes);
+    if requests > 64 {
+        return None;
     }
-    q
-}
-
-// Whether the rows of a book whose header holds end where the book does.
-fn is_exact(book: &[u8], w: usize) -> bool
-    requires { (12 ≤ length book.now) × BookHeader book.now × (w ≡ Book.width book.now) }
-    ensures { result ≡ eqb (length book.now) (12 + Book.states book.now * Book.width book.now) }
-{
-    book.len() == 12 + states(book) * w
+    Some(requests)
 }
 
 // Whether each of the four counts is in its range where it is present, and 0 where it is absent.
-fn counts_hold(book: &[u8]) -> bool
-    requires { 12 ≤ length book.now }
-    ensures { result ≡ all_below 4 (count_holds book.now) }
+fn counts_hold(bytes: &[u8]) -> bool
+    requires { 12 ≤ length bytes.now }
+    ensures { result ≡ all_below 4 (count_holds bytes.now) }
 {
-    let mut f = 0;
-    while f < 4 {
-        if !count_holds(book, f) {
+    for f in 0..4 {
+        if !count_holds(bytes, f) {
             return false;
         }
-        f += 1;
     }
     true
 }
 
-fn count_holds(book: &[u8], f: usize) -> bool
-    requires { (12 ≤ length book.now) × (f ≤ 3) }
-    ensures { result ≡ count_holds book.now f }
+fn count_holds(bytes: &[u8], f: usize) -> bool
+    requires { (12 ≤ length bytes.now) × (f ≤ 3) }
+    ensures { result ≡ count_holds bytes.now f }
 {
-    let count = wide(book[7 + f]);
-    if f < wide(book[6]) {
-        return within(1, count, 16);
+    let count = bytes[7 + f];
+    if f < usize::from(bytes[6]) {
+        (1..=16).contains(&count)
+    } else {
+        count == 0
     }
-    count == 0
 }
 
 // Row 14. The greatest entry is found without a branch, since every call takes this row.
-fn entries_hold(book: &[u8], w: usize) -> bool
-    requires { BookLayout book.now × (w ≡ Book.width book.now) }
-    ensures { result ≡ entries_hold book.now }
+fn entries_hold(layout: Layout) -> bool
+    ensures { result ≡ entries_hold layout.entry.bytes.now }
 {
-    let n = states(book);
-    let most = wide(greatest(book));
-    if n < most {
+    let n = header::states(layout.bytes);
+    if n < usize::from(greatest(layout.bytes)) {
         return false;
     }
-    events_possible(book, w)
+    events_possible(layout)
 }
 
 // The greatest entry of all rows.
-fn greatest(book: &[u8]) -> u8
-    requires { 12 ≤ length book.now }
-    ensures { result ≡ greatest_of book.now (length book.now - 12) }
+fn greatest(bytes: &[u8]) -> u8
+    requires { 12 ≤ length bytes.now }
+    ensures { result ≡ greatest_of bytes.now (length bytes.now - 12) }
 {
-    let mut most = 0;
-    let mut at = 12;
-    while at < book.len() {
-        let x = book[at];
-        most = if most < x { x } else { most };
-        at += 1;
+    let mut most = 0u8;
+    for &x in &bytes[12..] {
+        most = most.max(x);
     }
     most
 }
 
 // Whether every event is possible, in every row.
-fn events_possible(book: &[u8], w: usize) -> bool
-    requires { BookLayout book.now × (w ≡ Book.width book.now) }
-    ensures { result ≡ events_possible book.now }
+fn events_possible(layout: Layout) -> bool
+    ensures { result ≡ events_possible layout.entry.bytes.now }
 {
-    if w < 8 {
-        return possible_by_rows(book, w);
+    if layout.width < 8 {
+        possible_by_rows(layout)
+    } else {
+        possible_by_columns(layout)
     }
-    possible_by_columns(book, w)
 }
 
 // The same, row by row.
-fn possible_by_rows(book: &[u8], w: usize) -> bool
-    requires { BookLayout book.now × (w ≡ Book.width book.now) }
-    ensures { result ≡ events_possible book.now }
+fn possible_by_rows(layout: Layout) -> bool
+    ensures { result ≡ events_possible layout.entry.bytes.now }
 {
-    let n = states(book);
-    let e = events(book);
-    let mut i = 0;
-    while i < n {
-        if !all_possible(book, 12 + i * w, e) {
+    let e = header::events(layout.bytes);
+    for i in 0..header::states(layout.bytes) {
+        if !all_possible(layout.bytes, 12 + i * layout.width, e) {
             return false;
         }
-        i += 1;
     }
     true
 }
 
 // The same by the least entry of each of the first eight columns, which is found for all eight at once and without a branch.
-fn possible_by_columns(book: &[u8], w: usize) -> bool
-    requires { BookLayout book.now × (w ≡ Book.width book.now) × (8 ≤ w) }
-    ensures { result ≡ events_possible book.now }
+fn possible_by_columns(layout: Layout) -> bool
+    requires { 8 ≤ layout.width }
+    ensures { result ≡ events_possible layout.entry.bytes.now }
 {
     let mut least = [255u8; 8];
-    let n = states(book);
-    let mut i = 0;
-    while i < n {
-        lower(&mut least, book, 12 + i * w);
-        i += 1;
+    for i in 0..header::states(layout.bytes) {
+        lower(&mut least, layout.bytes, 12 + i * layout.width);
     }
-    all_possible(&least, 0, events(book))
+    all_possible(&least, 0, header::events(layout.bytes))
 }
 
 // Lowers each of eight bytes to the entry of its column in the row at byte `at`, where that is less.
-fn lower(least: &mut [u8], book: &[u8], at: usize)
-    requires { (length least.old ≡ 8) × (at + 8 ≤ length book.now) }
-    ensures { least.new ≡ list_below 8 (lesser least.old book.now at) }
+fn lower(least: &mut [u8], bytes: &[u8], at: usize)
+    requires { (length least.old ≡ 8) × (at + 8 ≤ length bytes.now) }
+    ensures { least.new ≡ list_below 8 (lesser least.old bytes.now at) }
 {
-    let mut c = 0;
-    while c < 8 {
-        let x = book[at + c];
-        let y = least[c];
-        least[c] = if x < y { x } else { y };
-        c += 1;
+    for (c, y) in least.iter_mut().enumerate() {
+        *y = (*y).min(bytes[at + c]);
     }
 }
 
 // Whether each of the first e entries from byte `at` on is a state, so that its code is possible.
-fn all_possible(book: &[u8], at: usize, e: usize) -> bool
-    requires { at + e ≤ length book.now }
-    ensures { result ≡ all_below e (is_possible book.now at) }
+fn all_possible(bytes: &[u8], at: usize, e: usize) -> bool
+    requires { at + e ≤ length bytes.now }
+    ensures { result ≡ all_below e (is_possible bytes.now at) }
 {
-    let mut c = 0;
-    while c < e {
-        if book[at + c] == 0 {
+    for &x in &bytes[at..at + e] {
+        if x == 0 {
             return false;
         }
-        c += 1;
     }
     true
 }
