@@ -1,8 +1,7 @@
 -- Parts of the file: where the record of a rule lies in the table, and the records of the events after the last.
 use mathlib.Core.Path.{◌≡◌, ap}
 use mathlib.Core.List.{List}
-use Prim.Native.Nat.{ℕ, ◌+◌, ◌-◌, ◌*◌, ◌<◌, ◌≤◌}
-use native.Mathlib.Nat.{mul-le-mul_right}
+use Prim.Native.Nat.{ℕ, ◌+◌, ◌-◌, ◌*◌, ◌<◌}
 use native.Mathlib.Omega.{arith}
 use lib.ListN.{length, take, drop, length-drop}
 use Rattle.automaton.proofs.Loops.{part_is-drop, row_within}
@@ -13,9 +12,6 @@ use Rattle.policy.specs.Sized.{TableOf, RuleOf, ChangesOf}
 module _ (p t : List ℕ) (size k : ℕ) (h : TableOf p t) (e : size ≡ rule_size p) where
   table-length : length t ≡ rules p * rule_size p + events p * variables p
   table-length = rw (h.table, length-drop) (let e = h.sized.exact in omega arith)
-
-  pub rule-within : k ≤ rules p → k * size ≤ length t
-  rule-within l = rw (e, table-length) (let m = mul-le-mul_right (rule_size p) l in omega arith)
 
   pub rule-is : take (length t - k * size) (drop (k * size) t) ≡ rule p k
   rule-is = rw (part_is-drop, e) (ap (drop (k * rule_size p)) h.table)

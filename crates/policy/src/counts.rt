@@ -9,12 +9,9 @@ pub fn requests(policy: &[u8]) -> usize
     requires { Sized policy.now }
     ensures { result ≡ requests policy.now }
 {
-    let n = header::fields(policy);
     let mut product = 1;
-    let mut f = 0;
-    while f < n {
-        product = product * header::count(policy, f);
-        f += 1;
+    for f in 0..header::fields(policy) {
+        product *= header::count(policy, f);
     }
     product
 }

@@ -3,41 +3,39 @@ ghost use Rattle.std.specs.Prelude.{◌≡◌, ◌+◌, ◌<◌, ◌≤◌, leng
 ghost use Rattle.definitions.specs.Bytes.{byte, two_bytes};
 ghost use Rattle.definitions.specs.Policy.{events, fields, variables, rules, count, starts, rule_size};
 
-use automaton::wide;
-
 pub fn two_bytes(bytes: &[u8], at: usize) -> usize
     requires { at + 1 < length bytes.now }
     ensures { (result ≡ two_bytes bytes.now at) × (result < 65536) }
 {
-    wide(bytes[at]) * 256 + wide(bytes[at + 1])
+    usize::from(u16::from_be_bytes([bytes[at], bytes[at + 1]]))
 }
 
 pub fn events(policy: &[u8]) -> usize
     requires { 9 ≤ length policy.now }
     ensures { (result ≡ events policy.now) × (result < 256) }
 {
-    wide(policy[5])
+    usize::from(policy[5])
 }
 
 pub fn fields(policy: &[u8]) -> usize
     requires { 9 ≤ length policy.now }
     ensures { (result ≡ fields policy.now) × (result < 256) }
 {
-    wide(policy[6])
+    usize::from(policy[6])
 }
 
 pub fn variables(policy: &[u8]) -> usize
     requires { 9 ≤ length policy.now }
     ensures { (result ≡ variables policy.now) × (result < 256) }
 {
-    wide(policy[7])
+    usize::from(policy[7])
 }
 
 pub fn rules(policy: &[u8]) -> usize
     requires { 9 ≤ length policy.now }
     ensures { (result ≡ rules policy.now) × (result < 256) }
 {
-    wide(policy[8])
+    usize::from(policy[8])
 }
 
 // How many values field f has.
@@ -45,7 +43,7 @@ pub fn count(policy: &[u8], f: usize) -> usize
     requires { 9 + f < length policy.now }
     ensures { (result ≡ count policy.now f) × (result < 256) }
 {
-    wide(policy[9 + f])
+    usize::from(policy[9 + f])
 }
 
 // How many starting values the file carries: in version 2 one for each variable, in version 1 none.
@@ -65,7 +63,7 @@ pub fn start(policy: &[u8], j: usize) -> usize
     requires { (9 ≤ length policy.now) × (9 + fields policy.now + j < length policy.now) }
     ensures { (result ≡ byte policy.now (9 + fields policy.now + j)) × (result < 256) }
 {
-    wide(policy[9 + fields(policy) + j])
+    usize::from(policy[9 + fields(policy) + j])
 }
 
 // The bytes of a rule's record.

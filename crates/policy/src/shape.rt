@@ -5,7 +5,7 @@ ghost use Rattle.policy.specs.Sized.{Passed};
 
 use super::{counts, header, part, valuation};
 
-#[derive(Clone, Copy)]
+#[derive(Clone, Copy, Debug, PartialEq, Eq)]
 pub struct Shape {
     pub events: usize,
     pub requests: usize,

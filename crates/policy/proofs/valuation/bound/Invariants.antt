@@ -1,11 +1,8 @@
 use mathlib.Core.Path.{◌≡◌}
-use Prim.Native.Nat.{◌≤◌, ◌<◌, ◌-◌}
+use Prim.Native.Nat.{◌<◌}
 use Rattle.automaton.specs.Below.{fold_below}
 use Rattle.definitions.specs.Valuation.{greatest_tested}
 use Rattle.policy.proofs.valuation.bound.Given as goal
 
 abbrev pub invariant-loop-k : goal.invariant-loop-k
-invariant-loop-k l = (l.k ≤ l.n) × (l.most ≡ fold_below l.k 0 (greatest_tested l.policy l.j)) × (l.most < 256)
-
-abbrev pub decreases-loop-k : goal.decreases-loop-k
-decreases-loop-k l = l.n - l.k
+invariant-loop-k l = (l.most ≡ fold_below l.k 0 (greatest_tested l.policy l.j)) × (l.most < 256)

@@ -1,11 +1,6 @@
-use Prim.Native.Nat.{◌≤◌}
-use Rattle.definitions.specs.Policy.{starts}
 use Rattle.definitions.specs.Valuation.{initial_value}
 use Rattle.policy.proofs.ValuationSums.{Summed}
 use Rattle.policy.proofs.valuation.start.Given as goal
 
 abbrev pub invariant-loop-j : goal.invariant-loop-j
-invariant-loop-j l = (l.j ≤ starts l.policy) × Summed l.policy (initial_value l.policy) l.j l.sum
-
-abbrev pub decreases-loop-j : goal.decreases-loop-j
-decreases-loop-j l = l.j
+invariant-loop-j l = Summed l.policy (initial_value l.policy) l.j l.sum
