@@ -1,35 +1,17 @@
--- Valuations as numbers in mixed radix, variable by variable: taking off one after another, testing and changing one, and changed ones within their bounds.
-use mathlib.Core.Path.{◌≡◌, refl}
-use mathlib.Core.Bool.{cond, ◌||◌}
+-- Valuations as numbers in mixed radix, variable by variable: taking off one after another, and changed ones within their bounds.
+use mathlib.Core.Path.{◌≡◌}
 use mathlib.Core.List.{List}
-use Prim.Native.Nat.{ℕ, zero, suc, ◌+◌, ◌/◌, ◌%◌, ◌<◌, ◌≤◌}
+use Prim.Native.Nat.{ℕ, ◌+◌, ◌/◌, ◌%◌, ◌<◌, ◌≤◌}
 use native.Mathlib.Nat.{div-div-eq-div-mul}
 use native.Mathlib.Numerals.{add-one}
-use native.Mathlib.Omega.{arith}
-use lib.Dec.{eqb, ltb}
-use borrow.Author.Tests.{ne_eqb}
 use Rattle.automaton.proofs.Congruence.{fold_below-same}
 use Rattle.definitions.specs.Policy.{variables}
-use Rattle.definitions.specs.Valuation.{bound, values_of, worth, with_variable, variable_in, changed}
-use Rattle.definitions.specs.Situation.{is_below}
+use Rattle.definitions.specs.Valuation.{bound, values_of, worth, with_variable, variable_in}
 use Rattle.policy.specs.Sized.{Passed}
 use Rattle.policy.proofs.ValuationSums.{valuation-low}
 use Rattle.definitions.proofs.Valuations.{changed-bound, variable_bound}
 use Rattle.rules.specs.Arrays.{Tabled}
 use Rattle.rules.specs.Changes.{Valued, changed_by, carried_by}
-
--- ---- a test and a change of one variable
-pub limited : (x most : ℕ) → (eqb most 0 || ltb x most) ≡ is_below x most
-limited x zero = refl
-limited x (suc most) = rw (ne_eqb (suc most) 0 (λ e. omega arith))
-
-pub reset : (change most x : ℕ) → 1 < change → changed change most x ≡ 0
-reset zero most x h = absurd (omega arith)
-reset (suc zero) most x h = absurd (omega arith)
-reset (suc (suc n)) most x h = refl
-
-pub added : (change most x : ℕ) → (change ≡ 0 → ⊥) → change ≤ 1 → changed change most x ≡ cond (ltb x most) (suc x) x
-added change most x h l = let e : change ≡ 1 = omega arith in rw e
 
 module _ (p : List ℕ) where
   -- ---- the variables before j have been taken off

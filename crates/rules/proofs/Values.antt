@@ -4,7 +4,7 @@ use mathlib.Core.List.{List}
 use Prim.Native.Nat.{ℕ, zero, suc, ◌-◌, ◌/◌, ◌%◌, ◌<◌, ◌≤◌}
 use native.Mathlib.Decide.{dec_lt}
 use native.Mathlib.Omega.{arith}
-use lib.ListN.{length, get_or, set, length-set}
+use lib.ListN.{length, get_or, set}
 use lib.Seq.{get_or-set_same, get_or-set_other}
 use Rattle.automaton.proofs.Congruence.{all-below-same}
 use Rattle.definitions.specs.Bytes.{bit}
@@ -18,33 +18,21 @@ use Rattle.rules.specs.RuleSets.{mask_admits, rule_admits, admitting, value_pass
 use Rattle.rules.proofs.RuleSets.{passing-same}
 
 -- the fields from f on have their entries, and the values of those before f are the digits of `rest`
-pub record Taken (p : List ℕ) (r : ℕ) (old values : List ℕ) (rest f : ℕ) : Type 0 where
-  pub within : f ≤ fields p
-  pub room : fields p ≤ length old
-  pub long : length values ≡ length old
+pub record Taken (p : List ℕ) (r : ℕ) (values : List ℕ) (rest f : ℕ) : Type 0 where
   pub digits : (j : ℕ) → j < f → high_digit (count p) f rest j ≡ value p r j
   pub entry : (j : ℕ) → f ≤ j → j < fields p → get_or values j 0 ≡ value p r j
 
-module _ (p : List ℕ) (r : ℕ) (old : List ℕ) where
-  pub taken_begun : (f : ℕ) → f ≡ fields p → fields p ≤ length old → Taken p r old old r f
-  taken_begun f e room = rw e (record {
-    within = omega arith;
-    room = room;
-    long = refl;
-    digits = λ j b. refl;
-    entry = λ j a b. absurd (omega arith);
-  })
+module _ (p : List ℕ) (r : ℕ) where
+  pub taken_begun : (values : List ℕ) (f : ℕ) → f ≡ fields p → Taken p r values r f
+  taken_begun values f e = rw e (record { digits = λ j b. refl; entry = λ j a b. absurd (omega arith) })
 
-  pub taken_turn : (values : List ℕ) (rest f c : ℕ) → Taken p r old values rest f → 0 < f → c ≡ count p (f - 1)
-      → Taken p r old (set values (f - 1) (rest % c)) (rest / c) (f - 1)
-  taken_turn values rest zero c now some e = absurd (omega arith)
-  taken_turn values rest (suc f) c now some e =
+  pub taken_turn : (values : List ℕ) (rest f c : ℕ) → Taken p r values rest f → 0 < f → f ≤ fields p → fields p ≤ length values → c ≡ count p (f - 1)
+      → Taken p r (set values (f - 1) (rest % c)) (rest / c) (f - 1)
+  taken_turn values rest zero c now some within room e = absurd (omega arith)
+  taken_turn values rest (suc f) c now some within room e =
       let last : suc f - 1 ≡ f = omega arith in
       let is : c ≡ count p f = rw last at e in
       rw (last, is) (record {
-        within = omega (arith, now.within);
-        room = now.room;
-        long = length-set values f (rest % count p f) ∙ now.long;
         digits = λ j b. sym (digit-before (count p) f rest j b) ∙ now.digits j (omega arith);
         entry = λ j a b. go j a b (dec_lt f j);
       })
@@ -53,11 +41,11 @@ module _ (p : List ℕ) (r : ℕ) (old : List ℕ) where
       go j a b (yes c) = get_or-set_other values f j (rest % count p f) 0 (λ q. omega arith) ∙ now.entry j c b
       go j a b (no c) =
           let q : j ≡ f = omega arith in
-          rw q (get_or-set_same values f (rest % count p f) 0 (omega (arith, now.within, now.room, now.long))
+          rw q (get_or-set_same values f (rest % count p f) 0 (omega arith)
           ∙ sym (digit-last (count p) f rest) ∙ now.digits f (omega arith))
 
-  pub taken_done : (values : List ℕ) (rest f : ℕ) → Taken p r old values rest f → f ≤ 0 → Tabled (fields p) (value p r) values
-  taken_done values rest f now none = record { room = omega (arith, now.room, now.long); entry = λ j b. now.entry j (omega arith) b }
+  pub taken_done : (values : List ℕ) (rest f : ℕ) → Taken p r values rest f → f ≤ 0 → fields p ≤ length values → Tabled (fields p) (value p r) values
+  taken_done values rest f now none room = record { room = room; entry = λ j b. now.entry j (omega arith) b }
 
 -- the values number bits of a word
 pub value_small : (p : List ℕ) → Passed p → (r f : ℕ) → f < fields p → value p r f < 64

@@ -8,19 +8,15 @@ ghost use Rattle.rules.specs.RuleSets.{value_passes, enabled_by, enabling};
 ghost use Rattle.rules.specs.Changes.{ChangesIn, change_at, Valued, carried_by};
 
 use super::sets;
-use automaton::wide;
-use policy::{header, part, record, valuation};
+use policy::{header, record, valuation};
 
 // Entry j is the bound of variable j.
 pub fn fill_bounds(policy: &[u8], table: &[u8], bounds: &mut [usize])
     requires { TableOf policy.now table.now × (variables policy.now ≤ length bounds.old) }
     ensures { Tabled (variables policy.now) (bound policy.now) bounds.new }
 {
-    let n = header::variables(policy);
-    let mut j = 0;
-    while j < n {
+    for j in 0..header::variables(policy) {
         bounds[j] = valuation::bound(policy, table, j);
-        j += 1;
     }
 }
 
@@ -29,14 +25,11 @@ pub fn fill_variables(policy: &[u8], bounds: &[usize], v: usize, values: &mut [u
     requires { Passed policy.now × Tabled (variables policy.now) (bound policy.now) bounds.now × (variables policy.now ≤ length values.old) }
     ensures { Tabled (variables policy.now) (variable_in policy.now v) values.new }
 {
-    let n = header::variables(policy);
     let mut rest = v;
-    let mut j = 0;
-    while j < n {
+    for j in 0..header::variables(policy) {
         let count = bounds[j] + 1;
         values[j] = rest % count;
-        rest = rest / count;
-        j += 1;
+        rest /= count;
     }
 }
 
@@ -46,7 +39,7 @@ fn test_passes(policy: &[u8], rule: &[u8], j: usize, x: usize) -> bool
     ensures { result ≡ value_passes policy.now rule.now j x }
 {
     let lt = record::lt(policy, rule, j);
-    (record::ge(policy, rule, j) <= x) & ((lt == 0) | (x < lt))
+    record::ge(policy, rule, j) <= x && (lt == 0 || x < lt)
 }
 
 // Whether the tests of a rule are true of these values of the variables.
@@ -54,14 +47,12 @@ fn enabled(policy: &[u8], rule: &[u8], values: &[usize]) -> bool
     requires { RuleOf policy.now rule.now × (variables policy.now ≤ length values.now) }
     ensures { result ≡ enabled_by policy.now rule.now (entry_of values.now) }
 {
-    let n = header::variables(policy);
-    let mut pass = true;
-    let mut j = 0;
-    while j < n {
-        pass = pass & test_passes(policy, rule, j, values[j]);
-        j += 1;
+    for j in 0..header::variables(policy) {
+        if !test_passes(policy, rule, j, values[j]) {
+            return false;
+        }
     }
-    pass
+    true
 }
 
 // The rules whose tests are true of these values of the variables.
@@ -69,31 +60,18 @@ pub fn rules_enabled(policy: &[u8], table: &[u8], values: &[usize]) -> u64
     requires { TableOf policy.now table.now × (variables policy.now ≤ length values.now) }
     ensures { result ≡ enabling policy.now (entry_of values.now) }
 {
-    let n = header::rules(policy);
-    let mut set = 0;
-    let mut k = 0;
-    while k < n {
-        set = sets::with_passing(
-            set,
-            k,
-            enabled(policy, part::rule(policy, table, k), values),
-        );
-        k += 1;
-    }
-    set
+    sets::rules_passing(policy, table, |rule| enabled(policy, rule, values))
 }
 
 fn changed(change: usize, most: usize, x: usize) -> usize
     requires { x ≤ most }
     ensures { (result ≡ changed change most x) × (result ≤ most) }
 {
-    if change == 0 {
-        return x;
+    match change {
+        0 => x,
+        1 => if x < most { x + 1 } else { x },
+        _ => 0,
     }
-    if 1 < change {
-        return 0;
-    }
-    if x < most { x + 1 } else { x }
 }
 
 // The valuation that these values of the variables lead to if the change of variable j is the byte at first + step × j. The last variable is the highest digit.
@@ -109,11 +87,9 @@ pub fn carried_out(
     ensures { (result ≡ carried_by policy.now (change_at part.now first step) (entry_of values.now)) × (result < 64) }
 {
     let mut sum = 0;
-    let mut j = header::variables(policy);
-    while 0 < j {
-        j -= 1;
+    for j in (0..header::variables(policy)).rev() {
         let most = bounds[j];
-        let change = wide(part[first + step * j]);
+        let change = usize::from(part[first + step * j]);
         let digit = changed(change, most, values[j]);
         sum = sum * (most + 1) + digit;
     }

@@ -6,7 +6,7 @@ ghost use Rattle.rules.specs.Arrays.{Tabled, entry_of, Small};
 ghost use Rattle.rules.specs.RuleSets.{mask_admits, admits, admitting, matching};
 
 use super::sets;
-use policy::{counts, header, part, record};
+use policy::{counts, header, record};
 
 // Entry f is the value of field f in request r. The last field's value is the lowest digit of r.
 fn fill_values(policy: &[u8], r: usize, values: &mut [usize])
@@ -14,12 +14,10 @@ fn fill_values(policy: &[u8], r: usize, values: &mut [usize])
     ensures { Tabled (fields policy.now) (value policy.now r) values.new }
 {
     let mut rest = r;
-    let mut f = header::fields(policy);
-    while 0 < f {
-        f -= 1;
+    for f in (0..header::fields(policy)).rev() {
         let count = header::count(policy, f);
         values[f] = rest % count;
-        rest = rest / count;
+        rest /= count;
     }
 }
 
@@ -35,14 +33,12 @@ fn rule_admits(policy: &[u8], rule: &[u8], values: &[usize]) -> bool
     requires { RuleOf policy.now rule.now × (fields policy.now ≤ length values.now) × Small (fields policy.now) values.now }
     ensures { result ≡ admits policy.now rule.now (entry_of values.now) }
 {
-    let n = header::fields(policy);
-    let mut pass = true;
-    let mut f = 0;
-    while f < n {
-        pass = pass & mask_admits(rule, values, f);
-        f += 1;
+    for f in 0..header::fields(policy) {
+        if !mask_admits(rule, values, f) {
+            return false;
+        }
     }
-    pass
+    true
 }
 
 // The rules whose masks admit these values of the fields.
@@ -50,18 +46,7 @@ fn rules_admitting(policy: &[u8], table: &[u8], values: &[usize]) -> u64
     requires { TableOf policy.now table.now × (fields policy.now ≤ length values.now) × Small (fields policy.now) values.now }
     ensures { result ≡ admitting policy.now (entry_of values.now) }
 {
-    let n = header::rules(policy);
-    let mut set = 0;
-    let mut k = 0;
-    while k < n {
-        set = sets::with_passing(
-            set,
-            k,
-            rule_admits(policy, part::rule(policy, table, k), values),
-        );
-        k += 1;
-    }
-    set
+    sets::rules_passing(policy, table, |rule| rule_admits(policy, rule, values))
 }
 
 // The rules that match request r.
@@ -79,10 +64,7 @@ pub fn fill_matching(policy: &[u8], table: &[u8], sets: &mut [u64])
     requires { Passed policy.now × TableOf policy.now table.now × (requests policy.now ≤ length sets.old) }
     ensures { Tabled (requests policy.now) (matching policy.now) sets.new }
 {
-    let n = counts::requests(policy);
-    let mut r = 0;
-    while r < n {
+    for r in 0..counts::requests(policy) {
         sets[r] = rules_matching(policy, table, r);
-        r += 1;
     }
 }

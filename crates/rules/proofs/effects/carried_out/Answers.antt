@@ -1,10 +1,10 @@
 -- `rules::effects::carried_out` meets its contract. The loop's invariant: `sum` has the changed variables from j on.
-use mathlib.Core.Path.{◌≡◌, ap, ap₂, ◌∙◌}
+use mathlib.Core.Path.{ap, ap₂, ◌∙◌}
 use Prim.Native.Nat.{ℕ, ◌<◌, ◌-◌, ◌+◌, ◌*◌}
 use native.Mathlib.Omega.{arith}
 use mathlib.Core.List.{List}
-use lib.ListN.{length, get_or}
-use Rattle.definitions.specs.Valuation.{bound, with_variable, changed}
+use lib.ListN.{get_or}
+use Rattle.definitions.specs.Valuation.{with_variable, changed}
 use Rattle.automaton.specs.Below.{fold_below}
 use Rattle.policy.proofs.ValuationSums.{bound_small, Summed, summed-none, summed-more, summed-all, valuation-low, summed-low}
 use Rattle.rules.specs.Arrays.{entry_of}
@@ -16,14 +16,6 @@ use Rattle.rules.proofs.effects.carried_out.Goals as goal
 -- the changed values, which stay within their bounds
 abbrev changes : List ℕ → List ℕ → ℕ → ℕ → List ℕ → ℕ → ℕ
 changes policy part first step values = changed_by policy (change_at part first step) (entry_of values)
-
-bound-is : (c : In-loop-j)
-    → get_or c.args.bounds.now (c.loop-j.j - 1) 0 ≡ bound c.args.policy.now (c.loop-j.j - 1)
-bound-is c = c.requires.1.entry (c.loop-j.j - 1) (omega arith)
-
-within : (c : In-loop-j)
-    → c.args.first + c.args.step * (c.loop-j.j - 1) < length c.args.part.now
-within c = c.requires.3 (c.loop-j.j - 1) (omega arith)
 
 -- the number after the turn
 next : (c : After-changed-digit)
@@ -37,7 +29,7 @@ next c =
     let most = get_or a.bounds.now (loop.j - 1) 0 in
     let is = c.requires.1.entry (loop.j - 1) (omega arith) in
     summed-more a.policy.now (changes a.policy.now a.part.now a.first a.step a.values.now) loop.j loop.sum most c.changed-digit.result (omega arith)
-    loop.invariant.1 is (c.changed-digit.ensures.0 ∙ ap₂ (λ (n b : ℕ). changed n b (entry_of a.values.now (loop.j - 1))) c.wide-change.ensures.0 is)
+    loop.invariant is (c.changed-digit.ensures.0 ∙ ap₂ (λ (n b : ℕ). changed n b (entry_of a.values.now (loop.j - 1))) c.from-change.ensures is)
 
 fits : (c : After-changed-digit)
     → let a = c.args in
@@ -57,24 +49,12 @@ loop-j-init c =
     let a = c.args in
     let p = a.policy.now in
     let new = changes p a.part.now a.first a.step a.values.now in
-    (omega arith, summed-none p new c.variables-j.result (ap (λ (n : ℕ). fold_below n 0 (with_variable p new)) c.variables-j.ensures.0))
-
-pub overflow_mul-step : goal.overflow_mul-step
-overflow_mul-step c = omega (arith, within (goal.at.overflow_mul-step c).In-loop-j)
-
-pub overflow_add-first : goal.overflow_add-first
-overflow_add-first c = omega (arith, within (goal.at.overflow_add-first c).In-loop-j)
-
-pub bounds-part-first : goal.bounds-part-first
-bounds-part-first c = within (goal.at.bounds-part-first c).In-loop-j
-
-pub changed-digit-requires : goal.changed-digit-requires
-changed-digit-requires c =
-    rw (bound-is (goal.at.changed-digit-requires c).In-loop-j) (c.requires.2.most (c.loop-j.j - 1) (omega arith))
+    summed-none p new c.variables-j.result (ap (λ (n : ℕ). fold_below n 0 (with_variable p new)) c.variables-j.ensures.0)
 
 pub overflow_add-sum : goal.overflow_add-sum
 overflow_add-sum c =
-    let small = bound_small c.args.policy.now c.requires.0.few_valuations (c.loop-j.j - 1) (omega arith) in omega (arith, bound-is (goal.at.overflow_add-sum c).In-loop-j)
+    let j = c.loop-j.j - 1 in
+    omega (arith, c.requires.1.entry j (omega arith), bound_small c.args.policy.now c.requires.0.few_valuations j (omega arith))
 
 pub overflow_mul-sum : goal.overflow_mul-sum
 overflow_mul-sum c = omega (arith, fits c (next c))
@@ -83,14 +63,14 @@ pub overflow_add-sum-in-loop-j : goal.overflow_add-sum-in-loop-j
 overflow_add-sum-in-loop-j c = omega (arith, fits c (next c))
 
 pub loop-j-preserved : goal.loop-j-preserved
-loop-j-preserved c = (omega arith, next c)
+loop-j-preserved c = next c
 
 pub returns : goal.returns
 returns c =
     let a = c.args in
     let loop = c.loop-j in
     let new = changes a.policy.now a.part.now a.first a.step a.values.now in
-    let e = summed-all a.policy.now new loop.j loop.sum (omega (arith, c.loop-j-test.false)) loop.invariant.1 in (
+    let e = summed-all a.policy.now new loop.j loop.sum (omega arith) loop.invariant in (
       e,
       rw e (valuation-low a.policy.now new c.requires.0.few_valuations
           (changed-within a.policy.now (change_at a.part.now a.first a.step) (entry_of a.values.now) c.requires.2.most)),
