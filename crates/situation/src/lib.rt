@@ -1,12 +1,12 @@
 // Situations: a set of valuations as the bits of a word.
 #![tactic(auto)]
 
-ghost use Rattle.std.specs.Prelude.{◌≡◌, ◌<◌, eqb};
+ghost use Rattle.std.specs.Prelude.{◌≡◌, ◌<◌};
 ghost use Rattle.definitions.specs.Bytes.{bit};
 ghost use Rattle.definitions.specs.Situation.{empty_set, insert, union, is_empty};
 
 // Bit v of the set says that valuation v is in it. The empty set is no situation: it stands for a step that is not possible.
-#[derive(Clone, Copy)]
+#[derive(Clone, Copy, Debug, Default, PartialEq, Eq, Hash)]
 pub struct Situation {
     pub set: u64,
 }
@@ -22,6 +22,7 @@ impl Situation {
         Situation::empty().with(valuation)
     }
 
+    // Beside `EMPTY`, since a constant has no contract: this one says which set it is.
     pub fn empty() -> Situation
         ensures { result.set ≡ empty_set }
     {
@@ -32,12 +33,6 @@ impl Situation {
         ensures { result ≡ is_empty self.set }
     {
         self.set == 0
-    }
-
-    pub fn equals(self, other: Situation) -> bool
-        ensures { result ≡ eqb self.set other.set }
-    {
-        self.set == other.set
     }
 
     pub fn has(self, v: usize) -> bool
