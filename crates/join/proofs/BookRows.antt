@@ -1,7 +1,7 @@
 -- Rows with the numbers of states, and the bytes of a book: a header of 12 bytes and the rows after it.
 use mathlib.Core.Path.{◌≡◌, sym, ap, ◌∙◌}
-use mathlib.Core.List.{List, [], ◌∷◌, ◌++◌, map-append, append_assoc}
-use Prim.Native.Nat.{ℕ, ◌+◌, ◌-◌, ◌*◌, ◌<◌, ◌≤◌}
+use mathlib.Core.List.{List, [], ◌∷◌, ◌++◌, map, map-append, append_assoc}
+use Prim.Native.Nat.{ℕ, suc, ◌+◌, ◌-◌, ◌*◌, ◌<◌, ◌≤◌}
 use native.Mathlib.Omega.{arith}
 use native.Mathlib.Numerals.{add-one}
 use lib.ListN.{length, get_or, take, drop, set, length-map, length-drop, length-append}
@@ -12,7 +12,7 @@ use Rattle.automaton.proofs.WellFormed.{get_or-map-within, Wide}
 use Rattle.definitions.specs.Answer.{written}
 use Rattle.definitions.specs.Bytes.{byte}
 use Rattle.definitions.specs.Book.{concat, book_bytes}
-use Rattle.definitions.specs.Rows.{rows_in, looked_up, laid, TableIn}
+use Rattle.definitions.specs.Rows.{row_in, rows_in, looked_up, laid, TableIn}
 use Rattle.join.specs.Numbers.{numbered_row, numbered_rows, book_header, StatesBelow}
 use Rattle.join.proofs.Numbers.{JoinedRows}
 use Rattle.definitions.proofs.Written.{written_next}
@@ -34,17 +34,18 @@ module _ (table row : List ℕ) where
       rw (eo, ex, looked_more c l) (written_next (looked_up table c row) buffer c (byte table (byte row c)) (looked_length c (omega arith)) b)
 
 -- ---- all rows
-module _ (raw : List ℕ) (w : ℕ) (numbers order : List ℕ) (ok : TableIn raw (length numbers - 1) w) (low : StatesBelow order (length numbers)) where
+module _ (raw : List ℕ) (n w : ℕ) (numbers order : List ℕ) (ok : TableIn raw n w) (low : StatesBelow order (suc n)) where
   pub numbered-count : length (numbered_rows raw w numbers order) ≡ length order
   numbered-count = length-map order (numbered_row raw w numbers)
 
   numbered_at : (i : ℕ) → i < length order → get_or (numbered_rows raw w numbers order) i [] ≡ numbered_row raw w numbers (byte order i)
   numbered_at i l = get_or-map-within (numbered_row raw w numbers) order i 0 [] l
 
-  pub numbered_part : (i x : ℕ) (part buffer : List ℕ) → i < length order → x ≡ byte order i
-      → part ≡ written (looked_up numbers w (drop ((x - 1) * w) raw)) buffer → part ≡ written (get_or (numbered_rows raw w numbers order) i []) buffer
-  numbered_part i x part buffer l e is =
-      is ∙ ap (λ (s : ℕ). written (numbered_row raw w numbers s) buffer) e ∙ ap (λ (row : List ℕ). written row buffer) (sym (numbered_at i l))
+  pub numbered_part : (i x : ℕ) (entries part buffer : List ℕ) → i < length order → x ≡ byte order i → entries ≡ row_in raw w (x - 1)
+      → part ≡ written (map (byte numbers) entries) buffer → part ≡ written (get_or (numbered_rows raw w numbers order) i []) buffer
+  numbered_part i x entries part buffer l e row is =
+      is ∙ ap (λ (xs : List ℕ). written (map (byte numbers) xs) buffer) row ∙ ap (λ (s : ℕ). written (numbered_row raw w numbers s) buffer) e
+      ∙ ap (λ (row : List ℕ). written row buffer) (sym (numbered_at i l))
 
   pub order_row : (i : ℕ) → i < length order → (byte order i - 1) * w + w ≤ length raw
   order_row i l = let s = low i l in state-row ok (byte order i) s.0 (omega (arith, s.1))
@@ -79,7 +80,7 @@ module _ (frame : List ℕ) (six : length frame ≡ 6) where
     rows = numbered_rows raw w numbers order
 
     count : length rows ≡ k
-    count = numbered-count raw w numbers order j.table j.states ∙ j.size
+    count = numbered-count raw n w numbers order j.table j.states ∙ j.size
 
     book-is : book_header frame k ++ concat rows ≡ book_bytes frame rows
     book-is =
@@ -88,7 +89,7 @@ module _ (frame : List ℕ) (six : length frame ≡ 6) where
 
     pub book-length : 12 + k * w ≡ length (book_bytes frame (minimal w (rows_in raw n w)))
     book-length =
-        ap (λ (n : ℕ). 12 + n * w) (sym count) ∙ sym (length-of-bytes frame rows six w (numbered-wide raw w numbers order j.table j.states))
+        ap (λ (n : ℕ). 12 + n * w) (sym count) ∙ sym (length-of-bytes frame rows six w (numbered-wide raw n w numbers order j.table j.states))
         ∙ ap (λ (rows : List (List ℕ)). length (book_bytes frame rows)) j.rows
 
     pub book-done : (book begun : List ℕ) {all : List ℕ} → begun ≡ written (book_header frame k) book → all ≡ laid 12 rows begun

@@ -39,8 +39,9 @@ pub record NumberedBelow (classes numbers order : List ℕ) (k s : ℕ) : Type 0
 
 -- the states in the order are numbered, and their rows are those of the smallest table
 pub record JoinedRows (raw : List ℕ) (n w : ℕ) (numbers order : List ℕ) (k : ℕ) : Type 0 where
-  pub table : TableIn raw (length numbers - 1) w
-  pub states : StatesBelow order (length numbers)
+  pub table : TableIn raw n w
+  pub long : length numbers ≡ suc n
+  pub states : StatesBelow order (suc n)
   pub size : length order ≡ k
   pub few : k ≤ n
   pub rows : numbered_rows raw w numbers order ≡ minimal w (rows_in raw n w)
@@ -199,9 +200,9 @@ module _ {raw : List ℕ} {n w : ℕ} {array : List ℕ} (ok : TableIn raw n w) 
       → numbers ≡ class_numbers array → JoinedRows raw n w numbers (take k order) k
   joined-rows order in_order (count-is, states) numbers-are =
       let size-numbers = length-list-below (class_number (byte array)) (length array) in
-      let left : length (class_numbers array) - 1 ≡ n = omega arith in
       rw (states, numbers-are) record {
-        table = rw left ok;
+        table = ok;
+        long = size-numbers ∙ size;
         states = λ i l. let r = first_at_law (byte array) (length array - 1) i l in (r.0, omega (arith, r.1, ok.some));
         size = sym count-is;
         few = omega (arith, rank-low (byte array) (length array - 1));

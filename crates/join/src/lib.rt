@@ -1,21 +1,21 @@
 // A table's alike states joined: one row for each class of them, numbered by its earliest history, written as a book.
 #![tactic(auto)]
 
-ghost use Rattle.std.specs.Prelude.{◌≡◌, cond, ◌+◌, ◌-◌, ◌*◌, ◌<◌, ◌≤◌, eqb, length, take, set};
+ghost use Rattle.std.specs.Prelude.{◌≡◌, cond, suc, ◌+◌, ◌*◌, ◌<◌, ◌≤◌, eqb, map, length, take, set};
 ghost use Rattle.automaton.specs.Join.{minimal};
 ghost use Rattle.automaton.specs.Ordered.{Ordered};
 ghost use Rattle.automaton.specs.Table.{tabled};
 ghost use Rattle.definitions.specs.Answer.{written};
 ghost use Rattle.definitions.specs.Bytes.{byte};
 ghost use Rattle.definitions.specs.Book.{book_bytes};
-ghost use Rattle.definitions.specs.Rows.{rows_in, looked_up, laid, TableIn, EntriesBelow};
+ghost use Rattle.definitions.specs.Rows.{rows_in, laid, TableIn, EntriesBelow};
 ghost use Rattle.refine.specs.Rounds.{one_class};
 ghost use Rattle.join.specs.Numbers.{NamesFirst, first_states, class_numbers, StatesBelow, numbered_rows, book_header};
 
-use automaton::wide;
+use refine::table::Table;
 
 // State `s` gets its number in place of its class: the next one, if it is the first of its class, and else that of its class. A first state goes to the end
-// of the `count` in `order`. Returns how many there are then.
+// of the `count` in `order`. Returns how many there are then. The count stands beside the array, since nothing here is on a heap.
 fn number_state(numbers: &mut [u8], order: &mut [u8], count: usize, s: usize) -> usize
     requires { (s < length numbers.old) × (s < 128) × (byte numbers.old s ≤ s) × (count < length order.old) × (count < 128) }
     ensures value { result ≡ cond (eqb (byte numbers.old s) s) (count + 1) count }
@@ -23,7 +23,7 @@ fn number_state(numbers: &mut [u8], order: &mut [u8], count: usize, s: usize) ->
         (cond (eqb (byte numbers.old s) s) (count + 1) (byte numbers.old (byte numbers.old s))) }
     ensures order_after { order.new ≡ cond (eqb (byte numbers.old s) s) (set order.old count s) order.old }
 {
-    let class = wide(numbers[s]);
+    let class = usize::from(numbers[s]);
     if class == s {
         order[count] = s as u8;
         numbers[s] = (count + 1) as u8;
@@ -41,38 +41,32 @@ fn number(numbers: &mut [u8], order: &mut [u8]) -> usize
     ensures numbers_after { numbers.new ≡ class_numbers numbers.old }
 {
     let mut count = 0;
-    let mut s = 1;
-    while s < numbers.len() {
+    for s in 1..numbers.len() {
         count = number_state(numbers, order, count, s);
-        s += 1;
     }
     count
 }
 
-// The row of a state, with the numbers of the successors. What lies behind it in the buffer is unchanged.
-fn write_row(row: &mut [u8], raw: &[u8], w: usize, numbers: &[u8])
-    requires { (w ≤ length row.old) × (w ≤ length raw.now) × EntriesBelow raw.now w (length numbers.now) }
-    ensures { row.new ≡ written (looked_up numbers.now w raw.now) row.old }
+// The entries of a state's row, with the numbers of the successors. What lies behind them in the buffer is unchanged.
+fn write_row(row: &mut [u8], entries: &[u8], numbers: &[u8])
+    requires { (length entries.now ≤ length row.old) × EntriesBelow entries.now (length entries.now) (length numbers.now) }
+    ensures { row.new ≡ written (map (byte numbers.now) entries.now) row.old }
 {
-    let mut c = 0;
-    while c < w {
-        row[c] = numbers[wide(raw[c])];
-        c += 1;
+    for (c, x) in entries.iter().enumerate() {
+        row[c] = numbers[usize::from(*x)];
     }
 }
 
 // The rows of the states in `order`, one after another from byte 12 on. The bytes before and after them are unchanged.
-fn write_rows(book: &mut [u8], raw: &[u8], w: usize, order: &[u8], numbers: &[u8])
-    requires table_in { TableIn raw.now (length numbers.now - 1) w × StatesBelow order.now (length numbers.now) }
-    requires w_in_bounds { 12 + length order.now * w ≤ length book.old }
-    ensures { book.new ≡ laid 12 (numbered_rows raw.now w numbers.now order.now) book.old }
+fn write_rows(book: &mut [u8], table: Table, order: &[u8], numbers: &[u8])
+    requires states_below { StatesBelow order.now (suc table.states) × (length numbers.now ≡ suc table.states) }
+    requires room { 12 + length order.now * table.width ≤ length book.old }
+    ensures { book.new ≡ laid 12 (numbered_rows table.entry.rows.now table.entry.width numbers.now order.now) book.old }
 {
-    let mut i = 0;
-    while i < order.len() {
-        let at = 12 + i * w;
-        let from = (wide(order[i]) - 1) * w;
-        write_row(&mut book[at..], &raw[from..], w, numbers);
-        i += 1;
+    for (i, s) in order.iter().enumerate() {
+        let at = 12 + i * table.width;
+        let entries = table.row(usize::from(*s));
+        write_row(&mut book[at..], entries, numbers);
     }
 }
 
@@ -86,28 +80,29 @@ fn write_header(book: &mut [u8], frame: &[u8], n: usize)
     book[11] = n as u8;
 }
 
-// The same as `write_joined` for the table of as many rows as `numbers` and `order` have places after the first. They are room to work in; `numbers` has the
-// states in one class, as before the first round.
+// The same as `write_joined` for a table. `numbers` and `order` are room to work in, with a place for each state after the first; `numbers` has the states in
+// one class, as before the first round.
 fn write_joined_in(
     book: &mut [u8],
     frame: &[u8],
-    raw: &[u8],
-    w: usize,
+    table: Table,
     numbers: &mut [u8],
     order: &mut [u8],
 ) -> usize
-    requires table_in { TableIn raw.now (length numbers.old - 1) w × Ordered (tabled w (rows_in raw.now (length numbers.old - 1) w)) (length numbers.old - 1) }
-    requires numbers_value { (numbers.old ≡ one_class (length numbers.old)) × (length numbers.old ≤ 128) × (length order.old ≡ length numbers.old) }
-    requires w_in_bounds { (12 + (length numbers.old - 1) * w ≤ length book.old) × (length frame.now ≡ 6) }
-    ensures value { result ≡ length (book_bytes frame.now (minimal w (rows_in raw.now (length numbers.old - 1) w))) }
+    requires ordered { Ordered (tabled table.width (rows_in table.rows.now table.states table.width)) table.states }
+    requires one_class { numbers.old ≡ one_class (length numbers.old) }
+    requires lengths { (length numbers.old ≡ suc table.states) × (length numbers.old ≤ 128) × (length order.old ≡ length numbers.old) }
+    requires room { (12 + table.states * table.width ≤ length book.old) × (length frame.now ≡ 6) }
+    ensures value { result
+        ≡ length (book_bytes frame.now (minimal table.entry.width (rows_in table.entry.rows.now table.entry.states table.entry.width))) }
     ensures book_after { book.new
-        ≡ written (book_bytes frame.now (minimal w (rows_in raw.now (length numbers.old - 1) w))) book.old }
+        ≡ written (book_bytes frame.now (minimal table.entry.width (rows_in table.entry.rows.now table.entry.states table.entry.width))) book.old }
 {
-    refine::refine_all(raw, w, numbers, order);
+    refine::refine_all(table, numbers, order);
     let k = number(numbers, order);
     write_header(book, frame, k);
-    write_rows(book, raw, w, &order[..k], numbers);
-    12 + k * w
+    write_rows(book, table, &order[..k], numbers);
+    12 + k * table.width
 }
 
 // The book with a frame whose rows are the smallest table with the histories of the `n` rows of `raw`, which are in order. Returns its length. The bytes
@@ -118,16 +113,14 @@ pub fn write_joined(book: &mut [u8], frame: &[u8], raw: &[u8], n: usize, w: usiz
     ensures value { result ≡ length (book_bytes frame.now (minimal w (rows_in raw.now n w))) }
     ensures book_after { book.new ≡ written (book_bytes frame.now (minimal w (rows_in raw.now n w))) book.old }
 {
+    let table = Table {
+        rows: raw,
+        width: w,
+        states: n,
+    };
     let mut numbers = [1u8; 128];
     numbers[0] = 0;
     let mut order = [0u8; 128];
     let size = n + 1;
-    write_joined_in(
-        book,
-        frame,
-        raw,
-        w,
-        &mut numbers[..size],
-        &mut order[..size],
-    )
+    write_joined_in(book, frame, table, &mut numbers[..size], &mut order[..size])
 }

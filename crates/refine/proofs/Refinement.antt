@@ -2,7 +2,7 @@
 use mathlib.Core.Path.{◌≡◌, refl, sym, ap, ◌∙◌}
 use mathlib.Core.Bool.{Bool, cond, true, false}
 use mathlib.Core.List.{List}
-use Prim.Native.Nat.{ℕ, ◌+◌, ◌-◌, ◌<◌, ◌≤◌}
+use Prim.Native.Nat.{ℕ, suc, ◌+◌, ◌-◌, ◌<◌, ◌≤◌}
 use native.Mathlib.Omega.{arith}
 use lib.Dec.{eqb}
 use lib.ListN.{length}
@@ -29,12 +29,15 @@ pub record AfterRounds (raw : List ℕ) (w : ℕ) (leads old classes next : List
 abbrev pub rounds_left : List ℕ → ℕ → ℕ
 rounds_left classes moved = (length classes - own_classes classes) + cond (eqb moved 0) 0 1
 
-pub refining_begun : {raw : List ℕ} {w : ℕ} {leads classes : List ℕ} (next : List ℕ) → TableIn raw (length classes - 1) w → length classes ≤ 128
-    → classes ≡ one_class (length classes) → 128 ≤ length leads → RowWords raw w (length classes - 1) leads → length next ≡ length classes
+pub refining_begun : {raw : List ℕ} {w n : ℕ} {leads classes : List ℕ} (next : List ℕ) → TableIn raw n w → length classes ≡ suc n → length classes ≤ 128
+    → classes ≡ one_class (length classes) → 128 ≤ length leads → RowWords raw w n leads → length next ≡ length classes
     → AfterRounds raw w leads classes classes next all_states
-refining_begun {leads = leads} next ok few one fits words room =
-    let rounds = rounds_begun ok few one in
-    record { rounds = rounds; words = words; kept = kept_begun leads rounds (omega arith) words; long = refl; room = room; done = λ z. absurd (omega arith) }
+refining_begun {raw} {w} {n} {leads} {classes} next table size few one fits words room =
+    let left : length classes - 1 ≡ n = omega arith in
+    let table_here : TableIn raw (length classes - 1) w = rw left table in
+    let rounds : InRounds raw w classes = rounds_begun table_here few one in
+    let words_here : RowWords raw w (length classes - 1) leads = rw left words in
+    record { rounds = rounds; words = words_here; kept = kept_begun leads rounds (omega arith) words_here; long = refl; room = room; done = λ z. absurd (omega arith) }
 
 -- one round more
 module _ {raw : List ℕ} {w : ℕ} {leads old classes next next' : List ℕ} {moved : ℕ} (now : AfterRounds raw w leads old classes next moved)

@@ -3,11 +3,14 @@ use mathlib.Core.Path.{◌≡◌, refl, sym, ap, ◌∙◌}
 use mathlib.Core.Bool.{true, false, true≢false}
 use mathlib.Core.List.{List, [], ◌∷◌, map}
 use Prim.Native.Nat.{ℕ, zero, suc, ◌+◌, ◌-◌, ◌*◌, ◌<◌, ◌≤◌}
+use native.Mathlib.Nat.{ℕ_set}
 use native.Mathlib.Omega.{arith}
 use native.Mathlib.Decide.{dec_lt}
 use lib.ListN.{length, get_or, take, drop, length-map}
 use lib.Seq.{length-take-le, get_or-take, ext_get_or}
 use borrow.Author.Tests.{eq-eqb}
+use Rattle.std.proofs.Math.Logic.{∥∥₁_elim}
+use Rattle.std.specs.Coded.{×_prop, le_prop}
 use Rattle.automaton.specs.Below.{same_list}
 use Rattle.automaton.specs.Join.{class_of, class_rows, first_like, refine, classes_after}
 use Rattle.automaton.proofs.Below.{and-true, same-list-refl, same-list-true, same-list-yes, same-list_no, place-hit}
@@ -23,6 +26,21 @@ use Rattle.definitions.proofs.TableBytes.{row_is, rows-count, bytes-are-table, c
 use Rattle.automaton.proofs.Congruence.{map_same}
 
 -- ---- two rows of classes, compared entry by entry
+module _ (f : ℕ → ℕ) (row other : List ℕ) (long : length row ≡ length other) where
+  classes_at : (xs : List ℕ) (c : ℕ) → c < length xs → get_or (map f xs) c 0 ≡ f (get_or xs c 0)
+  classes_at xs c l = get_or-map-within f xs c 0 0 l
+
+  pub classes-equal : ((c : ℕ) → c < length row → f (get_or row c 0) ≡ f (get_or other c 0)) → true ≡ same_list (map f row) (map f other)
+  classes-equal same =
+      same-list-yes (map f row) (map f other)
+      (ext_get_or 0 (map f row) (map f other) (length-map row f ∙ long ∙ sym (length-map other f))
+      (λ c b. let l : c < length row = omega (arith, length-map row f) in classes_at row c l ∙ same c l ∙ sym (classes_at other c (omega arith))))
+
+  pub classes-differ : (c : ℕ) → c < length row → (f (get_or row c 0) ≡ f (get_or other c 0) → ⊥) → false ≡ same_list (map f row) (map f other)
+  classes-differ c l differ =
+      same-list_no (map f row) (map f other)
+      (λ equal. differ (sym (classes_at row c l) ∙ ap (λ (xs : List ℕ). get_or xs c 0) equal ∙ classes_at other c (omega arith)))
+
 module _ (f : ℕ → ℕ) (row other : List ℕ) (w : ℕ) (long : w ≤ length row) (long-other : w ≤ length other) where
   entry_at : (xs : List ℕ) (c : ℕ) → w ≤ length xs → c < w → get_or (map f (take w xs)) c 0 ≡ f (get_or xs c 0)
   entry_at xs c l b =
@@ -36,14 +54,8 @@ module _ (f : ℕ → ℕ) (row other : List ℕ) (w : ℕ) (long : w ≤ length
       ext_get_or 0 (map f (take w row)) (map f (take w other)) (row-length row long ∙ sym (row-length other long-other))
       (λ c b. let l : c < w = omega (arith, row-length row long) in entry_at row c long l ∙ same c l ∙ sym (entry_at other c long-other l))
 
-  pub rows_same : ((c : ℕ) → c < w → f (get_or row c 0) ≡ f (get_or other c 0)) → true ≡ same_list (map f (take w row)) (map f (take w other))
-  rows_same same = same-list-yes (map f (take w row)) (map f (take w other)) (rows-equal same)
-
   pub entries-equal : map f (take w row) ≡ map f (take w other) → (c : ℕ) → c < w → f (get_or row c 0) ≡ f (get_or other c 0)
   entries-equal equal c l = sym (entry_at row c long l) ∙ ap (λ (xs : List ℕ). get_or xs c 0) equal ∙ entry_at other c long-other l
-
-  pub rows-differ : (c : ℕ) → c < w → (f (get_or row c 0) ≡ f (get_or other c 0) → ⊥) → false ≡ same_list (map f (take w row)) (map f (take w other))
-  rows-differ c l differ = same-list_no (map f (take w row)) (map f (take w other)) (λ equal. differ (entries-equal equal c l))
 
 -- ---- the states of a table, from 1 on, with their classes in an array
 module _ {raw : List ℕ} {w : ℕ} {classes : List ℕ} (now : InRounds raw w classes) where
@@ -189,14 +201,14 @@ module _ {raw : List ℕ} {w : ℕ} {classes : List ℕ} (now : InRounds raw w c
           let class = same_class t pt (omega arith) (same-list-true _ _ both.1) in
           omega (arith, named.low t (omega (arith, count)), new_class_at s)
 
-      pub search-passed : take s next ≡ take s (next_round raw w classes) → is_first_alike raw w classes next s t ≡ false → t + 1 ≤ byte (next_round raw w classes) s
+      pub search-passed : next ≡ take s (next_round raw w classes) → is_first_alike raw w classes next s t ≡ false → t + 1 ≤ byte (next_round raw w classes) s
       search-passed before e = go (dec_lt t (byte (next_round raw w classes) s))
         where
           alike : t ≡ f → is_first_alike raw w classes next s t ≡ true
           alike is =
               let old : byte classes t ≡ byte classes s = class_at t ∙ ap (class_of cs) is ∙ together ∙ sym (class_at s) in
               let new : byte next t ≡ t =
-              sym (get_or-take s next t 0 b) ∙ ap (λ (l : List ℕ). get_or l t 0) before ∙ get_or-take s (next_round raw w classes) t 0 b
+              ap (λ (l : List ℕ). get_or l t 0) before ∙ get_or-take s (next_round raw w classes) t 0 b
               ∙ new_class_at t ∙ ap (class_of fine) is ∙ own ∙ sym is in
               let same : looked_up classes w (drop ((t - 1) * w) raw) ≡ looked_up classes w (drop ((s - 1) * w) raw) =
               row_of t pt (omega arith) ∙ ap (λ (x : ℕ). get_or (class_rows cs rows) (x - 1) []) is ∙ equal ∙ sym (row_of s p (omega arith)) in
@@ -206,3 +218,31 @@ module _ {raw : List ℕ} {w : ℕ} {classes : List ℕ} (now : InRounds raw w c
           go : Dec (t < byte (next_round raw w classes) s) → t + 1 ≤ byte (next_round raw w classes) s
           go (yes d) = omega arith
           go (no d) = absurd (true≢false (sym (alike (omega (arith, new_class_at s))) ∙ e))
+
+-- ---- the same after some number of rounds, which is not known
+module _ {raw : List ℕ} {w : ℕ} {classes : List ℕ} (some : ∥ InRounds raw w classes ∥₁) where
+  pub some-few : length classes ≤ 128
+  some-few = ∥∥₁_elim some le_prop (λ now. now.few)
+
+  pub some-length : length (next_round raw w classes) ≡ length classes
+  some-length = ∥∥₁_elim some (ℕ_set _ _) (λ now. next_length_law now)
+
+  pub some-unmoved : with_moved classes (next_round raw w classes) 0 empty_set ≡ empty_set
+  some-unmoved = ∥∥₁_elim some (ℕ_set _ _) (λ now. first_unmoved now)
+
+  module _ (s : ℕ) (p : 1 ≤ s) (l : s < length classes) where
+    pub some-begins : (1 ≤ byte classes s) × (byte classes s ≤ byte (next_round raw w classes) s)
+    some-begins = ∥∥₁_elim some (×_prop le_prop le_prop) (λ now. search-begins now s p l)
+
+    pub some-low : byte (next_round raw w classes) s ≤ s
+    some-low = ∥∥₁_elim some le_prop (λ now. class_low now s p l)
+
+    pub before-length : (before : List ℕ) → before ≡ take s (next_round raw w classes) → length before ≡ s
+    before-length before known = ap length known ∙ length-take-le s (next_round raw w classes) (omega (arith, some-length))
+
+    module _ (before : List ℕ) (known : before ≡ take s (next_round raw w classes)) (t : ℕ) (pt : 1 ≤ t) (b : t < s) (not_after : t ≤ byte (next_round raw w classes) s) where
+      pub some-found : is_first_alike raw w classes before s t ≡ true → t ≡ byte (next_round raw w classes) s
+      some-found e = ∥∥₁_elim some (ℕ_set _ _) (λ now. search-found now s p l before t pt b not_after e)
+
+      pub some-passed : is_first_alike raw w classes before s t ≡ false → t + 1 ≤ byte (next_round raw w classes) s
+      some-passed e = ∥∥₁_elim some le_prop (λ now. search-passed now s p l before t pt b not_after known e)

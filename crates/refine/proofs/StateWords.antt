@@ -3,20 +3,22 @@ use mathlib.Core.Path.{◌≡◌, refl, sym, ap, ◌∙◌}
 use mathlib.Core.Bool.{Bool, true, false, not, or-true, false≢true}
 use mathlib.Core.Logic.{◌⊎◌, inl, inr}
 use mathlib.Core.List.{List}
-use Prim.Native.Nat.{ℕ, zero, suc, ◌+◌, ◌/◌, ◌%◌, ◌^◌, ◌<◌, min}
+use Prim.Native.Nat.{ℕ, zero, suc, ◌+◌, ◌*◌, ◌/◌, ◌%◌, ◌^◌, ◌<◌, min}
 use native.Mathlib.Nat.{zero-div}
 use native.Mathlib.Omega.{arith}
 use lib.Bits.{bit_and, bit_or, and_shr, and_step}
 use lib.Dec.{eqb}
-use lib.ListN.{length, set}
-use lib.Seq.{ext_get_or, get_or-set_same, get_or-set_other}
+use lib.ListN.{length, set, drop}
+use lib.Seq.{ext_get_or, get_or-take, get_or-set_same, get_or-set_other}
 use borrow.Author.Tests.{eqb-true, eq-eqb}
 use Rattle.automaton.specs.Below.{fold_below}
 use Rattle.automaton.proofs.Below.{below_suc, all-below_at}
+use Rattle.automaton.proofs.Congruence.{fold_below-same}
+use Rattle.definitions.specs.Rows.{row_in}
 use Rattle.definitions.specs.Bytes.{byte, bit}
 use Rattle.definitions.specs.Situation.{empty_set}
 use Rattle.definitions.proofs.Sets.{Has, bit-empty, bit-union, has_single, has-gathered}
-use Rattle.refine.specs.StateWords.{all_states, leads_to, row_word, RowWords, with_moved, moved_states}
+use Rattle.refine.specs.StateWords.{all_states, with_state, with_entry, leads_to, row_word, RowWords, with_moved, moved_states}
 
 -- ---- two words that share no bit
 one_alone : (x y : ℕ) → x ≡ 1 → y < 2 → min x y ≡ 0 → eqb y 1 ≡ false
@@ -39,6 +41,12 @@ second_misses a b m u z h = no_common (bit_or a b) m u z (bit-union a b u ∙ rw
 pub leads-has : (row : List ℕ) (w c : ℕ) → c < w → Has (leads_to row w) (byte row c / 2)
 leads-has row w c l =
     (has-gathered (λ k. true) (λ k. 2 ^ (byte row k / 2)) w (byte row c / 2)).1 (c, l, refl, (has_single (byte row c / 2) (byte row c / 2)).1 refl)
+
+-- the word of a row of a table
+pub row-word-of : (raw : List ℕ) (w i : ℕ) (row : List ℕ) → row ≡ row_in raw w i → length row ≡ w → leads_to row (length row) ≡ row_word raw w i
+row-word-of raw w i row e long =
+    rw long (ap (λ (l : List ℕ). leads_to l w) e
+    ∙ fold_below-same (with_entry (row_in raw w i)) (with_entry (drop (i * w) raw)) empty_set w (λ c word l. ap (λ (x : ℕ). with_state x word) (get_or-take w (drop (i * w) raw) c 0 l)))
 
 -- the words of the rows, one after another
 pub words_more : (raw : List ℕ) (w : ℕ) (leads : List ℕ) (i x : ℕ) → RowWords raw w i leads → i + 1 < length leads → x ≡ row_word raw w i

@@ -1,3 +1,4 @@
 pub mod StateWords
 pub mod Classes
 pub mod Rounds
+pub mod NextClasses

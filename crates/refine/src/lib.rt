@@ -2,130 +2,129 @@
 // the number of its first state.
 #![tactic(auto)]
 
+pub mod table;
 mod words;
 
-ghost use Rattle.std.specs.Prelude.{◌≡◌, ◌-◌, ◌*◌, ◌<◌, ◌≤◌, length, take};
+ghost use Rattle.std.specs.Prelude.{◌≡◌, ◌<◌, ◌≤◌, suc, map, length, take};
 ghost use Rattle.automaton.specs.Below.{same_list};
 ghost use Rattle.definitions.specs.Bytes.{byte};
-ghost use Rattle.definitions.specs.Rows.{looked_up, TableIn, EntriesBelow};
+ghost use Rattle.definitions.specs.Rows.{EntriesBelow};
 ghost use Rattle.refine.specs.Classes.{last_round};
-ghost use Rattle.refine.specs.Rounds.{InRounds, KeptClasses, one_class, next_round, is_first, is_first_alike};
+ghost use Rattle.refine.specs.Rounds.{InRounds, KeptClasses, one_class, is_first, is_first_alike};
 ghost use Rattle.refine.specs.StateWords.{moved_states};
 
+use crate::table::Table;
 use crate::words::{ALL_STATES, fill_leads, with_moved};
-use automaton::wide;
 
-// Whether the first `w` entries of two rows lead to the same classes.
-fn same_classes(row: &[u8], other: &[u8], w: usize, classes: &[u8]) -> bool
-    requires w_in_bounds { (w ≤ length row.now) × (w ≤ length other.now) }
-    requires entries_below { EntriesBelow row.now w (length classes.now) × EntriesBelow other.now w (length classes.now) }
-    ensures { result ≡ same_list (looked_up classes.now w row.now) (looked_up classes.now w other.now) }
+// Whether two rows lead to the same classes.
+fn same_classes(row: &[u8], other: &[u8], classes: &[u8]) -> bool
+    requires { (length row.now ≡ length other.now) × EntriesBelow row.now (length row.now) (length classes.now) × EntriesBelow other.now (length other.now) (length classes.now) }
+    ensures { result ≡ same_list (map (byte classes.now) row.now) (map (byte classes.now) other.now) }
 {
-    let mut c = 0;
-    while c < w {
-        if classes[wide(row[c])] != classes[wide(other[c])] {
+    for (x, y) in row.iter().zip(other) {
+        if classes[usize::from(*x)] != classes[usize::from(*y)] {
             return false;
         }
-        c += 1;
     }
     true
 }
 
-// Whether state `t` is the first of a new class inside the present class of state `s`.
-fn is_first(classes: &[u8], next: &[u8], s: usize, t: usize) -> bool
-    requires { (t < s) × (s < length classes.now) × (length next.now ≡ length classes.now) }
-    ensures { result ≡ is_first classes.now next.now s t }
-{
-    if classes[t] != classes[s] {
-        return false;
-    }
-    wide(next[t]) == t
+// A round as it begins: a table, for each state the word of the states that its row leads to, its class after the rounds so far, and the word of the states
+// that the last of them moved.
+#[derive(Clone, Copy)]
+struct Round<'a> {
+    table: Table<'a>,
+    leads: &'a [u64],
+    classes: &'a [u8],
+    moved: u64,
+    ghost class_of_each: { length classes.now ≡ suc table.states },
+    ghost in_rounds: { ∥ InRounds table.rows.now table.width classes.now ∥₁ },
+    ghost kept: { KeptClasses table.rows.now table.width leads.now moved classes.now },
 }
 
-// The same, and whether it leads to the same classes.
-fn is_first_alike(raw: &[u8], w: usize, classes: &[u8], next: &[u8], s: usize, t: usize) -> bool
-    requires in_rounds { InRounds raw.now w classes.now }
-    requires le_t { (1 ≤ t) × (t < s) × (s < length classes.now) × (length next.now ≡ length classes.now) }
-    ensures { result ≡ is_first_alike raw.now w classes.now next.now s t }
-{
-    if is_first(classes, next, s, t) {
-        let one = (t - 1) * w;
-        let other = (s - 1) * w;
-        return same_classes(&raw[one..], &raw[other..], w, classes);
-    }
-    false
-}
+impl<'a> Round<'a> {
+    ghost use Rattle.refine.specs.NextClasses.{next_classes};
 
-// The class of state `s` after a round: the first state that leads to the same classes. Only the first states of new classes inside its present class are
-// compared, since a round divides classes and never joins them. `next` has the new classes of the states before it.
-fn first_alike(raw: &[u8], w: usize, classes: &[u8], next: &[u8], s: usize) -> usize
-    requires in_rounds { InRounds raw.now w classes.now }
-    requires le_s { (1 ≤ s) × (s < length classes.now) × (length next.now ≡ length classes.now) }
-    requires next_value { take s next.now ≡ take s (next_round raw.now w classes.now) }
-    ensures { result ≡ byte (next_round raw.now w classes.now) s }
-{
-    let mut t = wide(classes[s]);
-    while t < s {
-        if is_first_alike(raw, w, classes, next, s, t) {
+    // Whether state `t` is the first of a new class inside the present class of state `s`. `before` has the new classes of the states before `s`.
+    fn is_first(&self, before: &[u8], s: usize, t: usize) -> bool
+        requires { (t < length before.now) × (t < s) × (s < length self.now.classes.now) }
+        ensures { result ≡ is_first self.now.classes.now before.now s t }
+    {
+        self.classes[t] == self.classes[s] && usize::from(before[t]) == t
+    }
+
+    // The same, and whether it leads to the same classes.
+    fn is_first_alike(&self, before: &[u8], s: usize, t: usize) -> bool
+        requires { (1 ≤ t) × (t < length before.now) × (t < s) × (s < length self.now.classes.now) }
+        ensures { result ≡ is_first_alike self.now.table.rows.now self.now.table.width self.now.classes.now before.now s t }
+    {
+        self.is_first(before, s, t)
+            && same_classes(self.table.row(t), self.table.row(s), self.classes)
+    }
+
+    // The new class of state `s`: the first state that leads to the same classes. Only the first states of new classes inside its present class are compared,
+    // since a round divides classes and never joins them.
+    fn first_alike(&self, before: &[u8], s: usize) -> usize
+        requires s_in_bounds { (1 ≤ s) × (s < length self.now.classes.now) }
+        requires before_value { before.now ≡ take s (next_classes self.now) }
+        ensures { result ≡ byte (next_classes self.now) s }
+    {
+        for t in usize::from(self.classes[s])..s {
+            if self.is_first_alike(before, s, t) {
+                return t;
+            }
+        }
+        s
+    }
+
+    // The same, without a search where the state keeps its class: neither it nor the first state of its class leads to a state that the round before moved.
+    fn next_class(&self, before: &[u8], s: usize) -> usize
+        requires s_in_bounds { (1 ≤ s) × (s < length self.now.classes.now) }
+        requires before_value { before.now ≡ take s (next_classes self.now) }
+        ensures { result ≡ byte (next_classes self.now) s }
+    {
+        let t = usize::from(self.classes[s]);
+        if (self.leads[s] | self.leads[t]) & self.moved == 0 {
             return t;
         }
-        t += 1;
+        self.first_alike(before, s)
     }
-    s
-}
 
-// The same, without a search where the state keeps its class: neither it nor the first state of its class leads to a state that the round before moved.
-fn next_class(
-    raw: &[u8],
-    w: usize,
-    leads: &[u64],
-    moved: u64,
-    classes: &[u8],
-    next: &[u8],
-    s: usize,
-) -> usize
-    requires in_rounds { InRounds raw.now w classes.now × KeptClasses raw.now w leads.now moved classes.now }
-    requires le_s { (1 ≤ s) × (s < length classes.now) × (length next.now ≡ length classes.now) }
-    requires next_value { take s next.now ≡ take s (next_round raw.now w classes.now) }
-    ensures { result ≡ byte (next_round raw.now w classes.now) s }
-{
-    let t = wide(classes[s]);
-    if (leads[s] | leads[t]) & moved == 0 {
-        return t;
+    // The new class of each state, in `next`. Returns the word of the states that moved to another class.
+    fn divide(&self, next: &mut [u8]) -> u64
+        requires { length next.old ≡ length self.now.classes.now }
+        ensures value { result ≡ moved_states self.now.classes.now (next_classes self.now) }
+        ensures next_after { next.new ≡ next_classes self.now }
+    {
+        next[0] = 0;
+        let mut word = 0;
+        for s in 1..self.classes.len() {
+            let class = self.next_class(&next[..s], s);
+            next[s] = class as u8;
+            word = with_moved(word, s, usize::from(self.classes[s]), class);
+        }
+        word
     }
-    first_alike(raw, w, classes, next, s)
-}
-
-// One round: the new class of each state, in `next`. Returns the word of the states that moved to another class.
-fn round(raw: &[u8], w: usize, leads: &[u64], moved: u64, classes: &[u8], next: &mut [u8]) -> u64
-    requires in_rounds { InRounds raw.now w classes.now × KeptClasses raw.now w leads.now moved classes.now }
-    requires next_len { length next.old ≡ length classes.now }
-    ensures value { result ≡ moved_states classes.now (next_round raw.now w classes.now) }
-    ensures next_after { next.new ≡ next_round raw.now w classes.now }
-{
-    next[0] = 0;
-    let mut word = 0;
-    let mut s = 1;
-    while s < classes.len() {
-        let class = next_class(raw, w, leads, moved, classes, next, s);
-        next[s] = class as u8;
-        word = with_moved(word, s, wide(classes[s]), class);
-        s += 1;
-    }
-    word
 }
 
 // The classes of alike states: rounds until one moves no state. Before the first all states are in class 1. `next` is room for a round.
-pub fn refine_all(raw: &[u8], w: usize, classes: &mut [u8], next: &mut [u8])
-    requires table_in { TableIn raw.now (length classes.old - 1) w × (length classes.old ≤ 128) × (length next.old ≡ length classes.old) }
-    requires classes_value { classes.old ≡ one_class (length classes.old) }
-    ensures { classes.new ≡ last_round raw.now w classes.old }
+pub fn refine_all(table: Table, classes: &mut [u8], next: &mut [u8])
+    requires lengths { (length classes.old ≡ suc table.states) × (length classes.old ≤ 128) × (length next.old ≡ length classes.old) }
+    requires one_class { classes.old ≡ one_class (length classes.old) }
+    ensures { classes.new ≡ last_round table.entry.rows.now table.entry.width classes.old }
 {
     let mut leads = [0u64; 128];
-    fill_leads(raw, w, classes.len() - 1, &mut leads);
+    fill_leads(table, &mut leads);
     let mut moved = ALL_STATES;
+    // A round of a fixed point, which does not say how many there are.
     while moved != 0 {
-        moved = round(raw, w, &leads, moved, classes, next);
+        let round = Round {
+            table,
+            leads: &leads,
+            classes,
+            moved,
+        };
+        moved = round.divide(next);
         classes.copy_from_slice(next);
     }
 }
