@@ -1,13 +1,14 @@
 -- Texts put into a buffer one after another are their join put there at once.
 use mathlib.Core.Path.{◌≡◌, refl, sym, ap, ◌∙◌}
 use mathlib.Core.List.{List, [], ◌∷◌, ◌++◌, append_assoc}
-use Prim.Native.Nat.{ℕ, suc, ◌+◌, ◌/◌, ◌≤◌, ◌<◌}
+use Prim.Native.Nat.{ℕ, suc, ◌+◌, ◌-◌, ◌/◌, ◌≤◌, ◌<◌}
 use native.Mathlib.Nat.{add-zero}
-use native.Mathlib.Numerals.{add-one}
 use native.Mathlib.Omega.{arith}
-use lib.ListN.{length, get_or, set, take, length-append}
-use lib.Seq.{sets, take-suc, take-length}
+use lib.ListN.{length, set, length-append}
+use lib.Seq.{sets, sets-eq, take-length}
+use borrow.Rule.Slice.PartMut.{put_mid}
 use borrow.Author.Tests.{lt-ltb, le-ltb}
+use Rattle.std.proofs.lemmas.Slice.{put_mid-paste}
 use Rattle.definitions.specs.Decimal.{digit, decimal}
 use Rattle.text.specs.Put.{Put}
 
@@ -47,13 +48,11 @@ module _ {before after : List ℕ} {at next : ℕ} (n : ℕ) where
   pub three_digits : 100 ≤ n → Put before at (digit (n / 100) ∷ digit (n / 10) ∷ digit n ∷ []) after next → Put before at (decimal n) after next
   three_digits l p = rw (le-ltb n 10 (omega arith), le-ltb n 100 l) p
 
--- the first bytes of a list, one more each turn
-module _ (before bytes : List ℕ) (at : ℕ) where
-  pub put-turn : {out : List ℕ} (i : ℕ) → i < length bytes → Put before at (take i bytes) out (at + i)
-      → Put before at (take (i + 1) bytes) (set out (at + i) (get_or bytes i 0)) (at + (i + 1))
-  put-turn {out} i l p =
-      let e : at + suc i ≡ (at + i) + 1 = omega arith in
-      rw (add-one i, take-suc bytes i 0 l, e) (then p (byte_put out (at + i) (get_or bytes i 0)))
-
-  pub put-done : {out : List ℕ} (i : ℕ) → i ≡ length bytes → Put before at (take i bytes) out (at + i) → Put before at bytes out (at + i)
-  put-done i e p = let is : take i bytes ≡ bytes = rw e (take-length bytes) in rw is at p
+-- bytes that were copied into the part from a place on
+pub copied : (before bytes part : List ℕ) (at : ℕ) → part ≡ bytes → at + length bytes ≤ length before
+    → Put before at bytes (put_mid at (at + length bytes - at) before part) (at + length bytes)
+copied before bytes part at e fits =
+    record {
+      stored = put_mid-paste at (at + length bytes - at) before part bytes (length bytes) e (omega arith) refl ∙ rw (take-length bytes) (sym (sets-eq bytes before at fits));
+      ends = refl;
+    }

@@ -1,14 +1,14 @@
 // Writers of text: each puts its text into a buffer from a place on, leaves every other byte unchanged, and returns the place after the text. And parts of an input.
 #![tactic(auto)]
 
-ghost use Rattle.std.specs.Prelude.{◌≡◌, [], ◌∷◌, ◌++◌, ◌+◌, ◌*◌, ◌/◌, ◌≤◌, ◌<◌, length, take};
+ghost use Rattle.std.specs.Prelude.{◌≡◌, ℕ, List, [], ◌∷◌, ◌++◌, ◌+◌, ◌*◌, ◌/◌, ◌≤◌, ◌<◌, length, take};
+ghost use Rattle.std.specs.Borrow.{MutBor};
 ghost use Rattle.definitions.specs.Bytes.{byte, two_bytes};
 ghost use Rattle.definitions.specs.Decimal.{digit, decimal};
 ghost use Rattle.definitions.specs.Characters.{blank, newline};
 ghost use Rattle.definitions.specs.Shelf.{codes_text};
 ghost use Rattle.text.specs.Put.{Put};
-
-use automaton::wide;
+ghost use Rattle.text.specs.Each.{each_text, Texts, PutsText};
 
 // One byte.
 pub fn put_byte(out: &mut [u8], at: usize, byte: u8) -> usize
@@ -20,16 +20,14 @@ pub fn put_byte(out: &mut [u8], at: usize, byte: u8) -> usize
 }
 
 // Bytes as they are.
+#[tactic(auto, using(crate::proofs::Puts::copied))]
 pub fn put(out: &mut [u8], at: usize, bytes: &[u8]) -> usize
     requires { at + length bytes.now ≤ length out.old }
     ensures { Put out.old at bytes.now out.new result }
 {
-    let mut i = 0;
-    while i < bytes.len() {
-        out[at + i] = bytes[i];
-        i += 1;
-    }
-    at + i
+    let end = at + bytes.len();
+    out[at..end].copy_from_slice(bytes);
+    end
 }
 
 // The last decimal digit of a number.
@@ -37,7 +35,7 @@ pub fn put_digit(out: &mut [u8], at: usize, n: usize) -> usize
     requires { at < length out.old }
     ensures { Put out.old at (digit n ∷ []) out.new result }
 {
-    put_byte(out, at, (48 + n % 10) as u8)
+    put_byte(out, at, b'0' + (n % 10) as u8)
 }
 
 // The last two.
@@ -65,6 +63,27 @@ pub fn put_decimal(out: &mut [u8], at: usize, n: usize) -> usize
     put_two_digits(out, next, n)
 }
 
+// The texts of bytes, one after another. The function puts the text of one byte at a place that has room for the longest.
+pub fn put_each<F: Fn(&mut [u8], usize, u8) -> usize>(
+    out: &mut [u8],
+    at: usize,
+    bytes: &[u8],
+    put_text: F,
+) -> usize
+    ghost texts: { Texts }
+    requires callable { (buffer : MutBor (List ℕ)) (place byte : ℕ) → place + texts.most ≤ length buffer.now → F.pre put_text buffer place byte }
+    requires puts { (buffer after : MutBor (List ℕ)) (place byte next : ℕ) → byte < 256 → F.post put_text buffer place byte next after → PutsText texts buffer.now place byte after.now next }
+    requires room { at + texts.most * length bytes.now ≤ length out.old }
+    ensures put { Put out.old at (each_text texts.text_of bytes.now) out.new result }
+    ensures upper_bound { result ≤ at + texts.most * length bytes.now }
+{
+    let mut next = at;
+    for byte in bytes {
+        next = put_text(out, next, *byte);
+    }
+    next
+}
+
 // A code after a blank.
 fn put_code(out: &mut [u8], at: usize, code: u8) -> usize
     requires { at + 4 ≤ length out.old }
@@ -72,7 +91,7 @@ fn put_code(out: &mut [u8], at: usize, code: u8) -> usize
     ensures upper_bound { result ≤ at + 4 }
 {
     let next = put_byte(out, at, b' ');
-    put_decimal(out, next, wide(code))
+    put_decimal(out, next, usize::from(code))
 }
 
 // The codes of a history.
@@ -81,13 +100,7 @@ pub fn put_codes(out: &mut [u8], at: usize, codes: &[u8]) -> usize
     ensures put { Put out.old at (codes_text codes.now) out.new result }
     ensures upper_bound { result ≤ at + 4 * length codes.now }
 {
-    let mut next = at;
-    let mut i = 0;
-    while i < codes.len() {
-        next = put_code(out, next, codes[i]);
-        i += 1;
-    }
-    next
+    put_each(out, at, codes, put_code)
 }
 
 // A line of a word, which ends in a blank, and a number.
@@ -107,17 +120,14 @@ pub fn first(s: &[u8], n: usize) -> &[u8]
     ensures result_value { result.now ≡ take n s.now }
     ensures result_len_bound { (length result.now ≤ n) × (length result.now ≤ length s.now) }
 {
-    if n < s.len() {
-        return &s[..n];
-    }
-    s
+    &s[..n.min(s.len())]
 }
 
 // A byte, 0 after the end.
 fn byte_at(s: &[u8], i: usize) -> usize
     ensures { (result ≡ byte s.now i) × (result < 256) }
 {
-    if i < s.len() { wide(s[i]) } else { 0 }
+    s.get(i).map_or(0, |b| usize::from(*b))
 }
 
 // The number in the first two bytes, the high byte first.
