@@ -10,10 +10,10 @@ pub overflow_add-n : goal.overflow_add-n
 overflow_add-n c = omega (arith, counted-few _ _ c.requires.earlier_parents _ _ c.loop-k.invariant)
 
 pub loop-k-smaller : goal.loop-k-smaller
-loop-k-smaller c = parent-low c.args.trail.now _ c.requires.earlier_parents _ _ c.wide-k.ensures.0 c.loop-k-test.true c.loop-k.invariant.low
+loop-k-smaller c = parent-low c.args.trail.now _ c.requires.earlier_parents _ _ c.from-k.ensures c.loop-k-test.true c.loop-k.invariant.low
 
 pub loop-k-preserved : goal.loop-k-preserved
-loop-k-preserved c = counted-turn _ _ c.requires.earlier_parents _ _ c.loop-k.invariant c.loop-k-test.true _ c.wide-k.ensures.0
+loop-k-preserved c = counted-turn _ _ c.requires.earlier_parents _ _ c.loop-k.invariant c.loop-k-test.true _ c.from-k.ensures
 
 pub returns : goal.returns
 returns c = counted-done _ _ c.requires.earlier_parents _ _ c.loop-k.invariant (omega arith)

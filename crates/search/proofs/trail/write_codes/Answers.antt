@@ -16,12 +16,12 @@ bounds-buffer-j c =
 
 pub loop-k-smaller : goal.loop-k-smaller
 loop-k-smaller c =
-    parent-low c.args.trail.now _ c.requires.earlier_parents _ _ c.wide-k.ensures.0 c.loop-k-test.true c.loop-k.invariant.low
+    parent-low c.args.trail.now _ c.requires.earlier_parents _ _ c.from-k.ensures c.loop-k-test.true c.loop-k.invariant.low
 
 pub loop-k-preserved : goal.loop-k-preserved
 loop-k-preserved c =
     let pre = c.requires in
-    writing-turn _ _ pre.earlier_parents _ _ _ _ c.loop-k.invariant c.loop-k-test.true pre.i_in_bounds_2.0 _ c.wide-k.ensures.0
+    writing-turn _ _ pre.earlier_parents _ _ _ _ c.loop-k.invariant c.loop-k-test.true pre.i_in_bounds_2.0 _ c.from-k.ensures
 
 pub returns : goal.returns
 returns c = writing-done _ _ c.requires.earlier_parents _ _ _ _ c.loop-k.invariant (omega arith)
