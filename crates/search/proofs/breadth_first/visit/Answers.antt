@@ -1,16 +1,10 @@
 -- `visit` meets its contract: the codes below c have been tried from the state at place i.
-use mathlib.Core.Path.{refl, ◌∙◌}
+use mathlib.Core.Path.{◌∙◌}
 use Prim.Native.Nat.{◌-◌, ◌*◌}
 use native.Mathlib.Omega.{arith}
 use borrow.Author.Rules.{rules}
-use Rattle.search.proofs.SearchTurns.{tried_begun, tried-low, tried-asks, tried-turn, part-code, part-entry}
+use Rattle.search.proofs.SearchTurns.{tried-asks, tried-turn, part-code, part-entry}
 use Rattle.search.proofs.breadth_first.visit.Goals as goal
-
-pub bounds-order-i : goal.bounds-order-i
-bounds-order-i c = omega (arith, tried-low c.requires.small_table.0 c.requires.small_table.1, c.requires.arrays.1, c.requires.arrays.0.room_order)
-
-pub loop-c-init : goal.loop-c-init
-loop-c-init c = (tried_begun _ _ _ _ c.requires.arrays.0, refl, refl, refl)
 
 pub note-k-requires : goal.note-k-requires
 note-k-requires c =

@@ -1,10 +1,7 @@
 -- `history_length` meets its contract: n codes lead from place k to place i.
 use native.Mathlib.Omega.{arith}
-use Rattle.search.proofs.Trails.{counted_begun, counted-few, counted-turn, counted-done, parent-low}
+use Rattle.search.proofs.Trails.{counted-few, counted-turn, counted-done, parent-low}
 use Rattle.search.proofs.trail.history_length.Goals as goal
-
-pub loop-k-init : goal.loop-k-init
-loop-k-init c = counted_begun _ _ c.requires.earlier_parents
 
 pub overflow_add-n : goal.overflow_add-n
 overflow_add-n c = omega (arith, counted-few _ _ c.requires.earlier_parents _ _ c.loop-k.invariant)
