@@ -4,7 +4,8 @@ use mathlib.Core.List.{List, [], ◌∷◌, ◌++◌}
 use Prim.Native.Nat.{ℕ, zero, suc, ◌+◌, ◌-◌, ◌*◌, ◌/◌, ◌≤◌, ◌<◌}
 use native.Mathlib.Numerals.{add-one}
 use native.Mathlib.Omega.{arith}
-use lib.ListN.{length, get_or, set, replicate, length-set, length-replicate, get_or-replicate}
+use lib.ListN.{length, get_or, set, take, drop, replicate, length-set, length-replicate, get_or-replicate}
+use Rattle.std.proofs.lemmas.List.{length-take, get_or-take, get_or-drop}
 use lib.Seq.{get_or-set_same, get_or-set_other}
 use borrow.Author.Tests.{ne_eqb}
 use Rattle.automaton.specs.Machine.{Machine}
@@ -85,6 +86,16 @@ module _ {rows : List ℕ} {w : ℕ} {order₀ trail₀ : List ℕ} {n i : ℕ} 
       pub tried-turn : {r : ℕ} {order' trail' numbers' : List ℕ} → Arrays (add (found_in k order trail) x (history_at trail i ++ (c ∷ []))) r order' trail' numbers'
           → Tried rows w order₀ trail₀ n i (c + 1) r order' trail' numbers'
       tried-turn S = record { are = rw next at S; within = omega arith }
+
+-- ---- the row as the code hands it on
+module _ (rows : List ℕ) (start w c : ℕ) (here : c < length (take (start + w - start) (drop start rows))) where
+  pub part-code : c < w
+  part-code = omega (arith, here, length-take (start + w - start) (drop start rows))
+
+  pub part-entry : get_or (take (start + w - start) (drop start rows)) c 0 ≡ byte rows (start + c)
+  part-entry =
+      let low : c < start + w - start = omega (arith, part-code) in
+      rw get_or-take (get_or-drop start rows c 0)
 
 -- ---- arrays that are empty
 pub empty_arrays : (most size : ℕ) (order trail numbers : List ℕ) → numbers ≡ replicate size 0 → most < size → size ≤ 128 → size ≤ length order → 2 * size ≤ length trail

@@ -9,7 +9,6 @@ ghost use Rattle.search.specs.Trail.{history_at};
 ghost use Rattle.search.specs.Found.{SmallTable, states_of, found_in, Arrays, EmptyArrays, visited_at, CanVisit, book_states};
 
 use crate::trail::put;
-use automaton::wide;
 
 // State 1 is found, with no history.
 pub fn begin(order: &mut [u8], numbers: &mut [u8])
@@ -62,12 +61,12 @@ fn visit(
     ensures { Arrays (visited_at rows.now width order.old trail.old n i)
         result order.new trail.new numbers.new }
 {
-    let row = (wide(order[i]) - 1) * width;
+    let start = (usize::from(order[i]) - 1) * width;
+    let row = &rows[start..start + width];
     let mut k = n;
-    let mut c = 0;
-    while c < width {
-        k = note(order, trail, numbers, k, wide(rows[row + c]), i, c);
-        c += 1;
+    for (c, &state) in row.iter().enumerate() {
+        let there = usize::from(state);
+        k = note(order, trail, numbers, k, there, i, c);
     }
     k
 }
@@ -87,6 +86,7 @@ pub fn explore(
     begin(order, numbers);
     let mut n = 1;
     let mut i = 0;
+    // The number of states found grows as they are visited.
     while i < n {
         n = visit(rows, width, order, trail, numbers, n, i);
         i += 1;

@@ -4,8 +4,6 @@ ghost use Rattle.definitions.specs.Answer.{written};
 ghost use Rattle.automaton.specs.Parents.{EarlierParents};
 ghost use Rattle.search.specs.Trail.{first_at, placed, history_at};
 
-use automaton::wide;
-
 // Stores two bytes at place k.
 pub fn put(places: &mut [u8], k: usize, x: u8, y: u8)
     requires { 2 * k + 1 < length places.old }
@@ -23,8 +21,9 @@ fn history_length(trail: &[u8], i: usize) -> usize
 {
     let mut k = i;
     let mut n = 0;
+    // From each place to its parent.
     while 0 < k {
-        k = wide(trail[2 * k]);
+        k = usize::from(trail[2 * k]);
         n += 1;
     }
     n
@@ -39,10 +38,11 @@ pub fn write_codes(trail: &[u8], i: usize, n: usize, buffer: &mut [u8])
 {
     let mut k = i;
     let mut j = n;
+    // From each place to its parent.
     while 0 < k {
         j -= 1;
         buffer[j] = trail[2 * k + 1];
-        k = wide(trail[2 * k]);
+        k = usize::from(trail[2 * k]);
     }
 }
 

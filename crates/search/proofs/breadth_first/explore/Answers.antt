@@ -1,18 +1,10 @@
 -- `explore` meets its contract: i states have been visited, and at most as many are found as the table has rows.
 use mathlib.Core.Path.{refl}
-use Prim.Native.Nat.{◌≤◌}
 use native.Mathlib.Omega.{arith}
 use lib.ListN.{length-set}
 use Rattle.search.proofs.SearchTurns.{searched_begun, searched_few, searched-next, searched-turn, searched_done}
 use borrow.Author.Rules.{rules}
-use Rattle.search.proofs.breadth_first.explore.Goals.{After-slice_known-in-loop-i-3-1}
 use Rattle.search.proofs.breadth_first.explore.Goals as goal
-
-few : (c : After-slice_known-in-loop-i-3-1) → c.loop-i.n ≤ 127
-few c =
-    let at-loop = c in
-    let at_pre = at-loop in
-    searched_few _ _ at_pre.requires.0 at-loop.loop-i.invariant.0
 
 pub loop-i-init : goal.loop-i-init
 loop-i-init c =
@@ -25,10 +17,10 @@ visit-n-requires c =
     let l = c.loop-i in record { small_table = (small, searched-next _ _ small l.invariant.0 c.loop-i-test.true); arrays = (l.invariant.0.are, l.invariant.4) }
 
 pub overflow_add-i : goal.overflow_add-i
-overflow_add-i c = omega (arith, few c, c.loop-i-test.true)
+overflow_add-i c = omega (arith, searched_few _ _ c.requires.0 c.loop-i.invariant.0, c.loop-i-test.true)
 
 pub loop-i-smaller : goal.loop-i-smaller
-loop-i-smaller c = omega (arith, few c, c.loop-i-test.true)
+loop-i-smaller c = omega (arith, searched_few _ _ c.requires.0 c.loop-i.invariant.0, c.loop-i-test.true)
 
 pub loop-i-preserved : goal.loop-i-preserved
 loop-i-preserved c =

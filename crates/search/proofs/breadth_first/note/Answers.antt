@@ -2,16 +2,13 @@
 use Prim.Native.Nat.{◌+◌, ◌≤◌, ◌<◌}
 use native.Mathlib.Omega.{arith}
 use lib.ListN.{length}
-use Rattle.search.proofs.Found.{noted_known, noted-room, noted-new}
+use Rattle.search.proofs.Found.{noted-room, noted-new}
 use Rattle.search.proofs.breadth_first.note.Goals.{Else-numbers-state-gt0}
 use Rattle.search.proofs.breadth_first.note.Goals as goal
 
 -- a new state finds a place
 room : (c : Else-numbers-state-gt0) → (c.args.n + 1 < length c.args.numbers.now) × (length c.args.numbers.now ≤ 128)
 room c = let s = c in (noted-room s.requires.arrays _ _ _ s.requires.state_in_bounds.0 s.requires.state_in_bounds.1 c.if-numbers-state-gt0.false s.requires.code_in_bounds, s.requires.arrays.few)
-
-pub returns-then-numbers-state-gt0 : goal.returns-then-numbers-state-gt0
-returns-then-numbers-state-gt0 c = noted_known c.requires.arrays _ _ _ c.requires.state_in_bounds.0 c.requires.state_in_bounds.1 c.if-numbers-state-gt0.true
 
 pub overflow_add-more : goal.overflow_add-more
 overflow_add-more c = omega (arith, room c)

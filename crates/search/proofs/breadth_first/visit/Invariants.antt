@@ -1,5 +1,4 @@
 use mathlib.Core.Path.{◌≡◌}
-use Prim.Native.Nat.{◌-◌}
 use lib.ListN.{length}
 use Rattle.search.proofs.SearchTurns.{Tried}
 use Rattle.search.proofs.breadth_first.visit.Given as goal
@@ -8,6 +7,3 @@ abbrev pub invariant-loop-c : goal.invariant-loop-c
 invariant-loop-c l =
     Tried l.rows l.width l.initial.order l.initial.trail l.n l.i l.c l.k l.order l.trail l.numbers
     × (length l.order ≡ length l.initial.order) × (length l.trail ≡ length l.initial.trail) × (length l.numbers ≡ length l.initial.numbers)
-
-abbrev pub decreases-loop-c : goal.decreases-loop-c
-decreases-loop-c l = l.width - l.c

@@ -1,10 +1,7 @@
 -- `write_codes` meets its contract: the codes from place j of the buffer on are written, those that lead to place k are to come.
 use native.Mathlib.Omega.{arith}
-use Rattle.search.proofs.Trails.{writing-begun, writing-some, writing-few, writing-turn, writing-done, parent-low}
+use Rattle.search.proofs.Trails.{writing-some, writing-few, writing-turn, writing-done, parent-low}
 use Rattle.search.proofs.trail.write_codes.Goals as goal
-
-pub loop-k-init : goal.loop-k-init
-loop-k-init c = writing-begun _ _ c.requires.earlier_parents _ _ c.requires.i_in_bounds_2.1
 
 pub overflow_sub-j : goal.overflow_sub-j
 overflow_sub-j c = writing-some _ _ c.requires.earlier_parents _ _ _ _ c.loop-k.invariant c.loop-k-test.true
@@ -16,12 +13,12 @@ bounds-buffer-j c =
 
 pub loop-k-smaller : goal.loop-k-smaller
 loop-k-smaller c =
-    parent-low c.args.trail.now _ c.requires.earlier_parents _ _ c.wide-k.ensures.0 c.loop-k-test.true c.loop-k.invariant.low
+    parent-low c.args.trail.now _ c.requires.earlier_parents _ _ c.from-k.ensures c.loop-k-test.true c.loop-k.invariant.low
 
 pub loop-k-preserved : goal.loop-k-preserved
 loop-k-preserved c =
     let pre = c.requires in
-    writing-turn _ _ pre.earlier_parents _ _ _ _ c.loop-k.invariant c.loop-k-test.true pre.i_in_bounds_2.0 _ c.wide-k.ensures.0
+    writing-turn _ _ pre.earlier_parents _ _ _ _ c.loop-k.invariant c.loop-k-test.true pre.i_in_bounds_2.0 _ c.from-k.ensures
 
 pub returns : goal.returns
 returns c = writing-done _ _ c.requires.earlier_parents _ _ _ _ c.loop-k.invariant (omega arith)
