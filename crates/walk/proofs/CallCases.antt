@@ -1,20 +1,27 @@
 -- The cases of the calls on an opened book: what each answers where the book is refused, where row 16 is, and where none is.
-use mathlib.Core.Path.{◌≡◌, ap, sym, ◌∙◌}
-use mathlib.Core.Bool.{true, false, ◌&&◌}
+use mathlib.Core.Path.{◌≡◌, refl, ap, sym, ◌∙◌}
+use mathlib.Core.Bool.{Bool, true, false, ◌&&◌}
 use mathlib.Core.List.{List}
-use Prim.Native.Nat.{ℕ, ◌<◌}
+use Prim.Native.Nat.{ℕ, zero, suc, ◌<◌, ◌≤◌}
 use native.Mathlib.Omega.{arith}
-use lib.Dec.{ltb}
+use lib.Dec.{ltb, eqb-suc-zero}
 use borrow.Author.Tests.{eq-eqb, ne_eqb, lt-ltb}
 use Rattle.automaton.specs.Machine.{step, is_state}
-use Rattle.definitions.specs.Answer.{refused, given}
+use Rattle.definitions.specs.Answer.{judge, then_judge, refused, given}
 use Rattle.definitions.specs.Book.{requests, width, book_machine}
 use Rattle.definitions.specs.Refusal.{book_refusal}
 use Rattle.definitions.specs.Telling.{telling}
-use Rattle.definitions.specs.Opened.{state_holds, open_refusal, tell_refusal, tell_answer, step_refusal, step_state}
-use Rattle.walk.specs.Walk.{open_state}
+use Rattle.definitions.specs.Opened.{state_holds, open_refusal, open_answer, tell_refusal, tell_answer, step_refusal, step_state}
+use Rattle.walk.specs.Walk.{open_state, state_refusal}
 use Rattle.definitions.proofs.Answers.{refused_answer}
+use Rattle.definitions.proofs.Tests.{then_judge-zero}
 use Rattle.definitions.proofs.BookSteps.{is_state_law}
+
+-- where a test fails, so do more of them: the number is the same
+more_tests : (m : ℕ) (p t : Bool) → (p ≡ false → t ≡ false) → 1 ≤ then_judge m (judge 16 p 0) → then_judge m (judge 16 p 0) ≡ then_judge m (judge 16 t 0)
+more_tests zero true t f some = absurd (omega arith)
+more_tests zero false t f some = rw (f refl)
+more_tests (suc m) p t f some = rw (eqb-suc-zero m)
 
 module _ (b : List ℕ) where
   pub open_refused : (n : ℕ) → n ≡ book_refusal b → (n ≡ 0 → ⊥) → (n ≡ open_refusal b) × (0 ≡ open_state b)
@@ -25,8 +32,26 @@ module _ (b : List ℕ) where
   unfolding open_refusal
   open_starts n e z = (e, rw (← e, eq-eqb n 0 z))
 
+  -- the rows up to that of the state let the call pass
+  pub state-passes : (s : ℕ) → 0 ≡ state_refusal b s → book_refusal b ≡ 0
+  state-passes s e = ((then_judge-zero (book_refusal b) (judge 16 (state_holds b s) 0)).0 (sym e)).0
+
+  pub open-err : (n : ℕ) → 1 ≤ n → n ≡ book_refusal b → refused n ≡ open_answer b
+  unfolding open_answer open_refusal
+  open-err n some e = rw (← e) (refused_answer n (λ z. omega arith) 1)
+
+  pub open-ok : 0 ≡ book_refusal b → given 1 ≡ open_answer b
+  unfolding open_answer open_refusal
+  open-ok e = rw (← e)
+
   -- ---- telling
   module _ (s r : ℕ) where
+    pub tell-err : (n : ℕ) → 1 ≤ n → n ≡ state_refusal b s → refused n ≡ tell_answer b s r
+    unfolding tell_answer tell_refusal
+    tell-err n some e =
+        let same = more_tests (book_refusal b) (state_holds b s) (state_holds b s && ltb r (requests b)) (λ f. rw f) (rw e at some) in
+        rw (← same, ← e) (refused_answer n (λ z. omega arith) (telling b s r))
+
     pub tell-refused : (n : ℕ) → n ≡ book_refusal b → (n ≡ 0 → ⊥) → refused n ≡ tell_answer b s r
     unfolding tell_answer tell_refusal
     tell-refused n e f = rw (← e, ne_eqb n 0 f) (refused_answer n f (telling b s r))
@@ -64,6 +89,11 @@ module _ (b : List ℕ) where
     number-taken : book_refusal b ≡ 0 → state_holds b s ≡ true → c < width b → is_state (step (book_machine b) s c) ≡ true → 0 ≡ step_refusal b s c
     unfolding step_refusal
     number-taken e h l q = rw (e, h, lt-ltb c (width b) l, q)
+
+    pub step-err : (n : ℕ) → 1 ≤ n → n ≡ state_refusal b s → n ≡ step_refusal b s c
+    unfolding step_refusal
+    step-err n some e =
+        e ∙ more_tests (book_refusal b) (state_holds b s) (state_holds b s && ltb c (width b) && is_state (step (book_machine b) s c)) (λ f. rw f) (rw e at some)
 
     pub step-refused : (n : ℕ) → n ≡ book_refusal b → (n ≡ 0 → ⊥) → Answers n s
     step-refused n e f = unchanged n (number-refused n e f) f

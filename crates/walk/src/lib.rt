@@ -2,104 +2,59 @@
 // 16 (the state, the request, the code), which is decided here and stated in definitions/specs/Opened.antt.
 #![tactic(auto)]
 
-ghost use Rattle.std.specs.Prelude.{◌≡◌};
-ghost use Rattle.definitions.specs.Answer.{given};
-ghost use Rattle.definitions.specs.Opened.{state_holds, open_refusal, tell_answer, step_refusal, step_state};
-ghost use Rattle.definitions.specs.Checked.{BookLayout};
+ghost use Rattle.std.specs.Prelude.{◌≡◌, true, ◌≤◌, IfOk};
+ghost use Rattle.definitions.specs.Opened.{state_holds, open_answer, tell_answer, step_refusal, step_state};
 ghost use Rattle.book.specs.Tellings.{telling_of};
-ghost use Rattle.walk.specs.Walk.{told_answer, open_state};
+ghost use Rattle.refusal.specs.Refused.{refusal_in, answer_in};
+ghost use Rattle.walk.specs.Walk.{state_refusal};
 
-use book::{Telling, entry, requests, states, telling_at, width};
-use bookcheck::refusal;
+use book::{Book, Telling};
+use bookcheck::check;
+use refusal::Refusal;
 
-// What is told of a request: the number of the row that refuses the call, or what is possible.
-#[derive(Clone, Copy)]
-pub enum Told {
-    Refused(usize),
-    None,
-    Accept,
-    Reject,
-    Both,
-}
-
-// A refusal's number, 0 for none, and the state afterwards.
-#[derive(Clone, Copy)]
-pub struct Stepped {
-    pub number: usize,
-    pub state: usize,
-}
-
-// Opening: the start, or state 0 where the book is refused.
-pub fn open(book: &[u8]) -> Stepped
-    ensures { (result.number ≡ open_refusal book.now) × (result.state ≡ open_state book.now) }
+// Opening: the start.
+pub fn open(bytes: &[u8]) -> Result<usize, Refusal>
+    ensures { answer_in (λ state. state) result ≡ open_answer bytes.now }
 {
-    let number = refusal(book);
-    if number != 0 {
-        return Stepped { number, state: 0 };
-    }
-    Stepped { number, state: 1 }
+    let _book = check(bytes)?;
+    Ok(1)
 }
 
 // What is possible for a request at a state of the book.
-pub fn tell(book: &[u8], state: usize, request: usize) -> Told
-    ensures { told_answer result ≡ tell_answer book.now state request }
+pub fn tell(bytes: &[u8], state: usize, request: usize) -> Result<Telling, Refusal>
+    ensures { answer_in telling_of result ≡ tell_answer bytes.now state request }
 {
-    let number = refusal(book);
-    if number != 0 {
-        return Told::Refused(number);
+    let book = book_at(bytes, state)?;
+    if request >= book.requests {
+        return Err(Refusal::NotInBook);
     }
-    if !state_holds(book, state) {
-        return Told::Refused(16);
-    }
-    if requests(book) <= request {
-        return Told::Refused(16);
-    }
-    told_of(telling_at(book, width(book), state, request))
+    Ok(book.telling(state, request))
 }
 
-// The state after a step was tried; where it is refused the state is unchanged.
-pub fn step(book: &[u8], state: usize, code: usize) -> Stepped
-    ensures { (result.number ≡ step_refusal book.now state code) × (result.state ≡ step_state book.now state code) }
+// The state that the step with a code leads to.
+pub fn step(bytes: &[u8], state: usize, code: usize) -> Result<usize, Refusal>
+    ensures refusal { refusal_in result ≡ step_refusal bytes.now state code }
+    ensures state { IfOk result (λ there. there ≡ step_state bytes.now state code) }
 {
-    let number = refusal(book);
-    if number != 0 {
-        return Stepped { number, state };
+    let walked = book_at(bytes, state)?;
+    if code >= walked.width {
+        return Err(Refusal::NotInBook);
     }
-    if !state_holds(book, state) {
-        return Stepped { number: 16, state };
-    }
-    let w = width(book);
-    if w <= code {
-        return Stepped { number: 16, state };
-    }
-    let there = entry(book, w, state, code);
+    let there = walked.entry(state, code);
     if there == 0 {
-        return Stepped { number: 16, state };
+        return Err(Refusal::NotInBook);
     }
-    Stepped {
-        number: 0,
-        state: there,
-    }
+    Ok(there)
 }
 
-// Whether a number is one of the states, 1 to n.
-fn state_holds(book: &[u8], state: usize) -> bool
-    requires { BookLayout book.now }
-    ensures { result ≡ state_holds book.now state }
+// A book that rows 12 to 14 let pass, where the number is one of its states, 1 to n.
+fn book_at(bytes: &[u8], state: usize) -> Result<Book<'_>, Refusal>
+    ensures refusal { refusal_in result ≡ state_refusal bytes.now state }
+    ensures book { IfOk result (λ book. (book.bytes ≡ bytes.entry) × (state_holds bytes.now state ≡ true)) }
 {
-    if state < 1 {
-        return false;
+    let book = check(bytes)?;
+    if !(1..=book.states()).contains(&state) {
+        return Err(Refusal::NotInBook);
     }
-    state <= states(book)
-}
-
-fn told_of(telling: Telling) -> Told
-    ensures { told_answer result ≡ given (telling_of telling) }
-{
-    match telling {
-        Telling::None => Told::None,
-        Telling::Accept => Told::Accept,
-        Telling::Reject => Told::Reject,
-        Telling::Both => Told::Both,
-    }
+    Ok(book)
 }

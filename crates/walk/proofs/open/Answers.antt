@@ -1,9 +1,13 @@
 -- `open` meets its contract.
-use Rattle.walk.proofs.CallCases.{open_refused, open_starts}
+use Rattle.std.proofs.lemmas.Result.{err_from_is_err_and}
+use Rattle.refusal.proofs.Refused.{some_number}
+use Rattle.walk.proofs.CallCases.{open-err, open-ok}
 use Rattle.walk.proofs.open.Goals as goal
 
-pub returns-then-number-ne0 : goal.returns-then-number-ne0
-returns-then-number-ne0 c = open_refused c.args.book.now c.refusal-number.result c.refusal-number.ensures c.if-number-ne0.true
+pub returns-in_err-_book : goal.returns-in_err-_book
+returns-in_err-_book c =
+    let p = err_from_is_err_and c.from_residual.result c.from_residual.ensures.1 in
+    rw (p.1, p.2) (open-err c.args.bytes.now _ (some_number c.in_err-_book.field-0.0) c.in_err-_book.ensures.refusal)
 
 pub returns : goal.returns
-returns c = open_starts c.args.book.now c.refusal-number.result c.refusal-number.ensures c.if-number-ne0.false
+returns c = open-ok c.args.bytes.now c.in_ok-_book.ensures.refusal

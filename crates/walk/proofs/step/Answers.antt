@@ -1,62 +1,52 @@
 -- `step` meets its contract: each way out is a case of CallCases.
-use mathlib.Core.Path.{◌≡◌, sym, ap, ◌∙◌}
+use Rattle.std.proofs.Common.{◌≡◌, ◌≤◌, ◌<◌, ◌∙◌, sym, ap, arith}
+use Rattle.std.proofs.lemmas.Result.{err_from_is_err_and}
 use mathlib.Core.Bool.{and-false}
-use Prim.Native.Nat.{◌≤◌}
-use native.Mathlib.Omega.{arith}
 use borrow.Author.Tests.{le-ltb}
 use Rattle.automaton.specs.Machine.{step, is_state}
 use Rattle.definitions.specs.Book.{width, states, book_machine}
-use Rattle.definitions.specs.Refusal.{book_refusal}
-use Rattle.definitions.proofs.Tests.{held, failed, within-true}
-use Rattle.definitions.proofs.Accepted.{book-passed}
+use Rattle.definitions.proofs.Tests.{within-true}
 use Rattle.definitions.proofs.BookSteps.{step-is-entry}
-use Rattle.walk.proofs.CallCases.{step-refused, step-outside, step-taken}
-use Rattle.walk.proofs.step.Goals.{After-entry-there, Else-not-state_holds, Else-number-ne0}
+use Rattle.refusal.proofs.Refused.{some_number}
+use Rattle.walk.proofs.CallCases.{state-passes, step-err, step-outside, step-taken}
+use Rattle.walk.proofs.step.Goals.{After-entry-there}
 use Rattle.walk.proofs.step.Goals as goal
 
-passes : (c : Else-number-ne0) → book_refusal c.args.book.now ≡ 0
-passes c = sym c.refusal-number.ensures ∙ c.if-number-ne0.false
-
-is_state_law : (c : Else-not-state_holds) → (1 ≤ c.args.state) × (c.args.state ≤ states c.args.book.now)
-is_state_law c = (within-true 1 c.args.state (states c.args.book.now)).0 (held _ _ c.state_holds.ensures c.if-not-state_holds.false)
-
 -- the entry that is read is the step
-taken : (c : After-entry-there) → step (book_machine c.args.book.now) c.args.state c.args.code ≡ c.entry-there.result
+taken : (c : After-entry-there) → step (book_machine c.args.bytes.now) c.args.state c.args.code ≡ c.entry-there.result
 taken c =
     let a = c.args in
-    step-is-entry a.book.now a.state a.code ((within-true 1 c.args.state (states c.args.book.now)).0 (held _ _ c.state_holds.ensures c.if-not-state_holds.false)).0 (omega arith) ∙ sym c.entry-there.ensures
+    let h = c.in_ok-walked.ensures in
+    let some = (within-true 1 a.state (states a.bytes.now)).0 h.book.1 in
+    let e = rw h.book.0 at c.in_ok-walked.walked.width_is in
+    let below : a.code < width a.bytes.now = omega (arith, e, c.if-code-walked.false) in
+    step-is-entry a.bytes.now a.state a.code some.0 below ∙ sym (rw h.book.0 at c.entry-there.ensures)
 
-pub returns-then-number-ne0 : goal.returns-then-number-ne0
-returns-then-number-ne0 c =
+pub returns-in_err-walked-clause-refusal : goal.returns-in_err-walked-clause-refusal
+returns-in_err-walked-clause-refusal c =
+    let p = err_from_is_err_and c.from_residual.result c.from_residual.ensures.1 in
+    rw (p.1, p.2) (step-err c.args.bytes.now c.args.state c.args.code _ (some_number c.in_err-walked.field-0.0) c.in_err-walked.ensures.refusal)
+
+pub returns-then-code-walked-clause-refusal : goal.returns-then-code-walked-clause-refusal
+returns-then-code-walked-clause-refusal c =
     let a = c.args in
-    step-refused a.book.now a.state a.code c.refusal-number.result c.refusal-number.ensures c.if-number-ne0.true
+    let h = c.in_ok-walked.ensures in
+    let e = rw h.book.0 at c.in_ok-walked.walked.width_is in
+    let beyond : width a.bytes.now ≤ a.code = omega (arith, e, c.if-code-walked.true) in
+    (step-outside a.bytes.now a.state a.code (state-passes a.bytes.now a.state h.refusal) (simp (le-ltb a.code (width a.bytes.now) beyond, and-false))).0
 
-pub state_holds-requires : goal.state_holds-requires
-state_holds-requires c = ((book-passed c.args.book.now).0 (passes c)).layout
-
-pub returns-then-not-state_holds : goal.returns-then-not-state_holds
-returns-then-not-state_holds c =
+pub returns-then-there-eq0-clause-refusal : goal.returns-then-there-eq0-clause-refusal
+returns-then-there-eq0-clause-refusal c =
     let a = c.args in
-    step-outside a.book.now a.state a.code (passes (goal.at.returns-then-not-state_holds c).Else-number-ne0) (simp (failed _ _ c.state_holds.ensures c.if-not-state_holds.true))
-
-pub width-w-requires : goal.width-w-requires
-width-w-requires c = ((book-passed c.args.book.now).0 (passes (goal.at.width-w-requires c).Else-number-ne0)).layout
-
-pub returns-then-w-code : goal.returns-then-w-code
-returns-then-w-code c =
-    let a = c.args in
-    step-outside a.book.now a.state a.code (passes (goal.at.returns-then-w-code c).Else-number-ne0) (simp (le-ltb a.code (width a.book.now) (omega arith), and-false))
-
-pub entry-there-requires : goal.entry-there-requires
-entry-there-requires c = record { book_layout = ((book-passed c.args.book.now).0 (passes (goal.at.entry-there-requires c).Else-number-ne0)).layout; width_value = (c.width-w.ensures, c.if-w-code.false); le_s = is_state_law (goal.at.entry-there-requires c).Else-not-state_holds }
-
-pub returns-then-there-eq0 : goal.returns-then-there-eq0
-returns-then-there-eq0 c =
-    let a = c.args in
-    step-outside a.book.now a.state a.code (passes (goal.at.returns-then-there-eq0 c).Else-number-ne0) (simp (ap is_state (taken (goal.at.returns-then-there-eq0 c).After-entry-there ∙ c.if-there-eq0.true), and-false))
+    let h = c.in_ok-walked.ensures in
+    (step-outside a.bytes.now a.state a.code (state-passes a.bytes.now a.state h.refusal) (simp (ap is_state (taken (goal.at.returns-then-there-eq0-clause-refusal c).After-entry-there ∙ c.if-there-eq0.true), and-false))).0
 
 pub returns : goal.returns
 returns c =
     let a = c.args in
-    step-taken a.book.now a.state a.code c.entry-there.result (passes (goal.at.returns c).Else-number-ne0) (held _ _ c.state_holds.ensures c.if-not-state_holds.false) (omega arith)
-    (sym (taken (goal.at.returns c).After-entry-there)) c.if-there-eq0.false
+    let h = c.in_ok-walked.ensures in
+    let e = rw h.book.0 at c.in_ok-walked.walked.width_is in
+    let below : a.code < width a.bytes.now = omega (arith, e, c.if-code-walked.false) in
+    let p = step-taken a.bytes.now a.state a.code c.entry-there.result (state-passes a.bytes.now a.state h.refusal) h.book.1 below
+    (sym (taken (goal.at.returns c).After-entry-there)) c.if-there-eq0.false in
+    record { refusal = p.0; state = p.1 }

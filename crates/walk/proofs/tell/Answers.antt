@@ -1,60 +1,31 @@
 -- `tell` meets its contract: each way out is a case of CallCases.
-use mathlib.Core.Path.{◌≡◌, sym, ap, ◌∙◌}
-use mathlib.Core.Bool.{and-false, true}
-use native.Mathlib.Omega.{arith}
+use Rattle.std.proofs.Common.{◌≤◌, ◌<◌, ◌∙◌, ap, arith}
+use Rattle.std.proofs.lemmas.Result.{err_from_is_err_and}
+use mathlib.Core.Bool.{and-false}
 use borrow.Author.Tests.{le-ltb}
 use Rattle.definitions.specs.Answer.{given}
-use Rattle.definitions.specs.Checked.{BookLayout}
-use Rattle.definitions.specs.Book.{requests, states}
-use Rattle.definitions.specs.Refusal.{book_refusal}
-use Rattle.definitions.specs.Opened.{state_holds}
-use Rattle.definitions.proofs.Tests.{held, failed, within-true}
-use Rattle.definitions.proofs.Accepted.{book-passed}
-use Rattle.walk.proofs.CallCases.{tell-refused, tell-outside, tell-inside}
-use Rattle.walk.proofs.tell.Goals.{Else-not-state_holds, Else-number-ne0}
+use Rattle.definitions.specs.Book.{requests}
+use Rattle.refusal.proofs.Refused.{some_number}
+use Rattle.walk.proofs.CallCases.{state-passes, tell-err, tell-outside, tell-inside}
 use Rattle.walk.proofs.tell.Goals as goal
 
-passes : (c : Else-number-ne0) → book_refusal c.args.book.now ≡ 0
-passes c = sym c.refusal-number.ensures ∙ c.if-number-ne0.false
+pub returns-in_err-book : goal.returns-in_err-book
+returns-in_err-book c =
+    let p = err_from_is_err_and c.from_residual.result c.from_residual.ensures.1 in
+    rw (p.1, p.2) (tell-err c.args.bytes.now c.args.state c.args.request _ (some_number c.in_err-book.field-0.0) c.in_err-book.ensures.refusal)
 
-laid : (c : Else-number-ne0) → BookLayout c.args.book.now
-laid c = ((book-passed c.args.book.now).0 (sym c.refusal-number.ensures ∙ c.if-number-ne0.false)).layout
-
-is_state_law : (c : Else-not-state_holds) → state_holds c.args.book.now c.args.state ≡ true
-is_state_law c = held _ _ c.state_holds.ensures c.if-not-state_holds.false
-
-pub returns-then-number-ne0 : goal.returns-then-number-ne0
-returns-then-number-ne0 c =
+pub returns-then-request-book : goal.returns-then-request-book
+returns-then-request-book c =
     let a = c.args in
-    tell-refused a.book.now a.state a.request c.refusal-number.result c.refusal-number.ensures c.if-number-ne0.true
-
-pub state_holds-requires : goal.state_holds-requires
-state_holds-requires c = laid c
-
-pub returns-then-not-state_holds : goal.returns-then-not-state_holds
-returns-then-not-state_holds c =
-    let a = c.args in
-    tell-outside a.book.now a.state a.request (passes (goal.at.returns-then-not-state_holds c).Else-number-ne0) (simp (failed _ _ c.state_holds.ensures c.if-not-state_holds.true))
-
-pub requests-requires : goal.requests-requires
-requests-requires c = let l = laid (goal.at.requests-requires c).Else-number-ne0 in (omega (arith, l.exact), l.header.fields_most)
-
-pub returns-then-requests-request : goal.returns-then-requests-request
-returns-then-requests-request c =
-    let a = c.args in
-    tell-outside a.book.now a.state a.request (passes (goal.at.returns-then-requests-request c).Else-number-ne0) (simp (le-ltb a.request (requests a.book.now) (omega arith), and-false))
-
-pub width-requires : goal.width-requires
-width-requires c = laid (goal.at.width-requires c).Else-number-ne0
-
-pub telling_at-requires : goal.telling_at-requires
-telling_at-requires c =
-    let a = c.args in
-    let some = (within-true 1 a.state (states a.book.now)).0 (is_state_law (goal.at.telling_at-requires c).Else-not-state_holds) in record { book_layout = (laid (goal.at.telling_at-requires c).Else-number-ne0, c.width.ensures); le_state = (some.0, some.1, omega (arith, c.if-requests-request.false, c.requests.ensures)) }
+    let h = c.in_ok-book.ensures in
+    let e = rw h.book.0 at c.in_ok-book.book.requests_are in
+    let beyond : requests a.bytes.now ≤ a.request = omega (arith, e, c.if-request-book.true) in
+    tell-outside a.bytes.now a.state a.request (state-passes a.bytes.now a.state h.refusal) (simp (le-ltb a.request (requests a.bytes.now) beyond, and-false))
 
 pub returns : goal.returns
 returns c =
     let a = c.args in
-    c.told_of.ensures ∙ ap given c.telling_at.ensures
-    ∙ tell-inside a.book.now a.state a.request (passes (goal.at.returns c).Else-number-ne0) (is_state_law (goal.at.returns c).Else-not-state_holds)
-    (omega (arith, c.if-requests-request.false, c.requests.ensures))
+    let h = c.in_ok-book.ensures in
+    let e = rw h.book.0 at c.in_ok-book.book.requests_are in
+    let below : a.request < requests a.bytes.now = omega (arith, e, c.if-request-book.false) in
+    ap given (rw h.book.0 at c.telling.ensures) ∙ tell-inside a.bytes.now a.state a.request (state-passes a.bytes.now a.state h.refusal) h.book.1 below
