@@ -4,20 +4,22 @@
 
 ghost use Rattle.std.specs.Prelude.{◌≡◌};
 ghost use Rattle.definitions.specs.Opened.{tell_answer};
-ghost use Rattle.walk.specs.Walk.{told_answer};
+ghost use Rattle.book.specs.Tellings.{telling_of};
+ghost use Rattle.refusal.specs.Refused.{answer_in};
 ghost use Rattle.opened.specs.OpenedCalls.{open_of, step_of};
 
-use walk::Told;
+use book::Telling;
+use refusal::Refusal;
 
-#[derive(Clone, Copy)]
+#[derive(Clone, Copy, Debug)]
 pub struct OpenedBook<'a> {
     pub bytes: &'a [u8],
     pub state: usize,
 }
 
 // What opening and a step answer: the number of the row that refused the call, 0 for none, beside the book. A book whose opening is refused has state 0,
-// and every later call answers the same number.
-#[derive(Clone, Copy)]
+// and every later call answers the same number; so `StaysClosed` of specs/OpenedCalls.antt speaks of a number with a book, and this is no Result.
+#[derive(Clone, Copy, Debug)]
 pub struct Opened<'a> {
     pub number: usize,
     pub book: OpenedBook<'a>,
@@ -27,20 +29,19 @@ pub struct Opened<'a> {
 pub fn open<'a>(bytes: &'a [u8]) -> Opened<'a>
     ensures { result ≡ open_of bytes.entry }
 {
-    let start = walk::open(bytes);
-    let book = OpenedBook {
-        bytes,
-        state: start.state,
+    let (number, state) = match walk::open(bytes) {
+        Ok(start) => (0, start),
+        Err(refusal) => (usize::from(refusal.number()), 0),
     };
     Opened {
-        number: start.number,
-        book,
+        number,
+        book: OpenedBook { bytes, state },
     }
 }
 
 // What is possible for a request now.
-pub fn tell<'a>(book: OpenedBook<'a>, request: usize) -> Told
-    ensures { told_answer result ≡ tell_answer book.entry.bytes.now book.entry.state request }
+pub fn tell<'a>(book: OpenedBook<'a>, request: usize) -> Result<Telling, Refusal>
+    ensures { answer_in telling_of result ≡ tell_answer book.entry.bytes.now book.entry.state request }
 {
     walk::tell(book.bytes, book.state, request)
 }
@@ -49,13 +50,15 @@ pub fn tell<'a>(book: OpenedBook<'a>, request: usize) -> Told
 pub fn step<'a>(book: OpenedBook<'a>, code: usize) -> Opened<'a>
     ensures { result ≡ step_of book.entry code }
 {
-    let there = walk::step(book.bytes, book.state, code);
-    let next = OpenedBook {
-        bytes: book.bytes,
-        state: there.state,
+    let (number, state) = match walk::step(book.bytes, book.state, code) {
+        Ok(there) => (0, there),
+        Err(refusal) => (usize::from(refusal.number()), book.state),
     };
     Opened {
-        number: there.number,
-        book: next,
+        number,
+        book: OpenedBook {
+            bytes: book.bytes,
+            state,
+        },
     }
 }

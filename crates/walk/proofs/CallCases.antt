@@ -11,7 +11,7 @@ use Rattle.definitions.specs.Answer.{judge, then_judge, refused, given}
 use Rattle.definitions.specs.Book.{requests, width, book_machine}
 use Rattle.definitions.specs.Refusal.{book_refusal}
 use Rattle.definitions.specs.Telling.{telling}
-use Rattle.definitions.specs.Opened.{state_holds, open_refusal, open_answer, tell_refusal, tell_answer, step_refusal, step_state}
+use Rattle.definitions.specs.Opened.{state_holds, open_refusal, tell_refusal, tell_answer, step_refusal, step_state}
 use Rattle.walk.specs.Walk.{open_state, state_refusal}
 use Rattle.definitions.proofs.Answers.{refused_answer}
 use Rattle.definitions.proofs.Tests.{then_judge-zero}
@@ -35,14 +35,6 @@ module _ (b : List ℕ) where
   -- the rows up to that of the state let the call pass
   pub state-passes : (s : ℕ) → 0 ≡ state_refusal b s → book_refusal b ≡ 0
   state-passes s e = ((then_judge-zero (book_refusal b) (judge 16 (state_holds b s) 0)).0 (sym e)).0
-
-  pub open-err : (n : ℕ) → 1 ≤ n → n ≡ book_refusal b → refused n ≡ open_answer b
-  unfolding open_answer open_refusal
-  open-err n some e = rw (← e) (refused_answer n (λ z. omega arith) 1)
-
-  pub open-ok : 0 ≡ book_refusal b → given 1 ≡ open_answer b
-  unfolding open_answer open_refusal
-  open-ok e = rw (← e)
 
   -- ---- telling
   module _ (s r : ℕ) where
@@ -73,6 +65,10 @@ module _ (b : List ℕ) where
     unchanged : (n : ℕ) → n ≡ step_refusal b s c → (n ≡ 0 → ⊥) → Answers n s
     unfolding step_state
     unchanged n e f = (e, rw (← e, ne_eqb n 0 f))
+
+    -- where a step is refused the state is unchanged
+    pub stays : 1 ≤ step_refusal b s c → s ≡ step_state b s c
+    stays some = (unchanged (step_refusal b s c) refl (λ z. omega arith)).1
 
     moves : (there : ℕ) → 0 ≡ step_refusal b s c → there ≡ step (book_machine b) s c → Answers 0 there
     unfolding step_state

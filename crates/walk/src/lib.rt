@@ -3,7 +3,7 @@
 #![tactic(auto)]
 
 ghost use Rattle.std.specs.Prelude.{◌≡◌, true, ◌≤◌, IfOk};
-ghost use Rattle.definitions.specs.Opened.{state_holds, open_answer, tell_answer, step_refusal, step_state};
+ghost use Rattle.definitions.specs.Opened.{state_holds, open_refusal, tell_answer, step_refusal, step_state};
 ghost use Rattle.book.specs.Tellings.{telling_of};
 ghost use Rattle.refusal.specs.Refused.{refusal_in, answer_in};
 ghost use Rattle.walk.specs.Walk.{state_refusal};
@@ -14,7 +14,8 @@ use refusal::Refusal;
 
 // Opening: the start.
 pub fn open(bytes: &[u8]) -> Result<usize, Refusal>
-    ensures { answer_in (λ state. state) result ≡ open_answer bytes.now }
+    ensures refusal { refusal_in result ≡ open_refusal bytes.now }
+    ensures state { IfOk result (λ state. state ≡ 1) }
 {
     let _book = check(bytes)?;
     Ok(1)
