@@ -20,6 +20,7 @@ use Rattle.definitions.specs.Bytes.{bit}
 use Rattle.definitions.specs.Situation.{empty_set, insert}
 use Rattle.images.specs.Choice.{level_at, decision_at, with_decided, with_target, with_most, level_in, greatest, with_chosen, chosen_by, leading, Listed, Chosen}
 use Rattle.images.specs.declared.deciding.Choice.{Choice}
+use Rattle.images.specs.declared.deciding.Rank.{Rank}
 use Rattle.rules.proofs.RuleSets.{bit_and_law, none_from, Member}
 
 -- turns that change nothing can be left out
@@ -31,7 +32,7 @@ fold_idle f a k (suc n) l idle = go (dec_le k n) (λ h. fold_idle f a k n h (λ 
     go (yes h) ih = idle n (fold_below n a f) h (omega arith) ∙ ih h
     go (no h) ih = let e : k ≡ suc n = omega arith in rw e
 
-module _ (fits : ℕ) (ranks targets : List ℕ) where
+module _ (fits : ℕ) (ranks : List Rank) (targets : List ℕ) where
   left_out : (best d k x : ℕ) → (bit fits k && eqb (level_at ranks k) best) ≡ false → with_chosen fits ranks targets best d k x ≡ x
   left_out best d k x e = rw e (go (eqb (decision_at ranks k) d))
     where
@@ -130,5 +131,5 @@ module _ (fits : ℕ) (ranks targets : List ℕ) where
       )
 
 -- every rule that matches a request and is enabled has its entries
-pub listed_both : (a b : ℕ) (ranks targets : List ℕ) → Listed b ranks targets → Listed (bit_and a b) ranks targets
+pub listed_both : (a b : ℕ) (ranks : List Rank) (targets : List ℕ) → Listed b ranks targets → Listed (bit_and a b) ranks targets
 listed_both a b ranks targets h k e = h k (and-true (bit a k) (bit b k) (sym (bit_and_law a b k) ∙ e)).1

@@ -7,6 +7,13 @@ ghost use Rattle.images.specs.Choice.{with_decided, kept, with_target, Listed, C
 use rules::sets;
 use situation::Situation;
 
+// The level and the decision of a rule.
+#[derive(Clone, Copy, Default)]
+pub struct Rank {
+    pub level: usize,
+    pub decision: usize,
+}
+
 // The set, and the target if the decision is d.
 fn with_decided(set: Situation, decision: usize, d: usize, target: usize) -> Situation
     requires { target < 64 }
@@ -67,7 +74,7 @@ impl Choice {
 }
 
 // The choice among the rules that fit.
-fn choose(fits: u64, ranks: &[usize], targets: &[usize]) -> Choice
+fn choose(fits: u64, ranks: &[Rank], targets: &[usize]) -> Choice
     requires { Listed fits ranks.now targets.now }
     ensures { Chosen fits ranks.now targets.now (length ranks.now) result }
 {
@@ -79,7 +86,7 @@ fn choose(fits: u64, ranks: &[usize], targets: &[usize]) -> Choice
         let zeros = sets::lowest(rest);
         k += zeros;
         let rank = ranks[k];
-        choice = choice.with_rule(rank / 2, rank % 2, targets[k]);
+        choice = choice.with_rule(rank.level, rank.decision, targets[k]);
         rest = (rest >> zeros) / 2;
         k += 1;
     }
@@ -87,13 +94,7 @@ fn choose(fits: u64, ranks: &[usize], targets: &[usize]) -> Choice
 }
 
 // Entries 2r and 2r + 1 are where request r leads, accepted and rejected.
-pub fn fill_requests(
-    sets: &[u64],
-    enabled: u64,
-    ranks: &[usize],
-    targets: &[usize],
-    row: &mut [u64],
-)
+pub fn fill_requests(sets: &[u64], enabled: u64, ranks: &[Rank], targets: &[usize], row: &mut [u64])
     requires { Listed enabled ranks.now targets.now × (2 * length sets.now ≤ length row.old) }
     ensures { Tabled (2 * length sets.now) (chosen_for sets.now enabled ranks.now targets.now) row.new }
 {

@@ -11,8 +11,9 @@ ghost use Rattle.policy.specs.Sized.{Passed, TableOf};
 ghost use Rattle.policy.specs.Shape.{shape_of};
 ghost use Rattle.rules.specs.Arrays.{Tabled, entry_of};
 ghost use Rattle.rules.specs.Changes.{Valued};
-ghost use Rattle.images.specs.Images.{rule_rank, rule_target, event_from, image_from, Prepared, DecidedBy, image_entry, ImagesOf};
+ghost use Rattle.images.specs.Images.{rule_target, event_from, image_from, Ranked, Prepared, DecidedBy, image_entry, ImagesOf};
 
+use deciding::Rank;
 use policy::shape::Shape;
 use policy::{header, part, record};
 use rules::{effects, matching};
@@ -28,7 +29,7 @@ struct PreparedPolicy<'a> {
     // entry r has the rules that match request r
     sets: &'a [u64],
     // entry k is the rank of rule k
-    ranks: &'a [usize],
+    ranks: &'a [Rank],
     ghost has_table: { TableOf policy.now table.now },
     ghost has_arrays: { Prepared policy.now bounds.now sets.now ranks.now },
 }
@@ -103,14 +104,17 @@ impl<'a> PreparedPolicy<'a> {
     }
 }
 
-// Entry k is the rank of rule k: twice its level, and its decision.
-fn fill_ranks(policy: &[u8], table: &[u8], ranks: &mut [usize])
+// Entry k is the rank of rule k.
+fn fill_ranks(policy: &[u8], table: &[u8], ranks: &mut [Rank])
     requires { TableOf policy.now table.now × (rules policy.now ≤ length ranks.old) }
-    ensures { Tabled (rules policy.now) (rule_rank policy.now) ranks.new }
+    ensures { Ranked policy.now ranks.new }
 {
     for k in 0..header::rules(policy) {
         let rule = part::rule(policy, table, k);
-        ranks[k] = 2 * record::level(policy, rule) + record::decision(policy, rule);
+        ranks[k] = Rank {
+            level: record::level(policy, rule),
+            decision: record::decision(policy, rule),
+        };
     }
 }
 
@@ -121,7 +125,7 @@ pub fn fill_images(policy: &[u8], shape: Shape, images: &mut [u64])
 {
     let mut bounds = [0usize; 4];
     let mut sets = [0u64; 64];
-    let mut ranks = [0usize; 32];
+    let mut ranks = [Rank::default(); 32];
     let table = part::rule_table(policy);
     effects::fill_bounds(policy, table, &mut bounds);
     matching::fill_matching(policy, table, &mut sets);
