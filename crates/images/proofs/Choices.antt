@@ -4,23 +4,23 @@ use mathlib.Core.Path.{◌≡◌, refl, sym, ap, ◌∙◌}
 use mathlib.Core.Bool.{Bool, cond, true, false, ◌&&◌}
 use mathlib.Core.List.{List}
 use mathlib.Core.Logic.{◌⊎◌, inl, inr}
-use Prim.Native.Nat.{ℕ, zero, suc, ◌+◌, ◌-◌, ◌*◌, ◌/◌, ◌%◌, ◌^◌, ◌<◌, ◌≤◌, max}
+use Prim.Native.Nat.{ℕ, zero, suc, ◌+◌, ◌/◌, ◌^◌, ◌<◌, ◌≤◌, max}
 use native.Mathlib.Nat.{max-eq_left, max-eq_right, max-zero}
 use native.Mathlib.Decide.{dec_le}
 use native.Mathlib.Numerals.{add-one}
 use native.Mathlib.Omega.{arith}
 use lib.Bits.{bit_and}
 use lib.Dec.{eqb}
-use lib.ListN.{length, get_or, set}
+use lib.ListN.{get_or}
 use borrow.Author.Tests.{lt-ltb, le-ltb, eq-eqb, ne_eqb}
 use Rattle.automaton.specs.Below.{fold_below}
 use Rattle.automaton.proofs.Below.{and-true, greatest_below_law}
 use Rattle.automaton.proofs.Order.{tri}
-use Rattle.automaton.proofs.FilledList.{FilledUpTo, filled_turn}
 use Rattle.definitions.specs.Bytes.{bit}
 use Rattle.definitions.specs.Situation.{empty_set, insert}
-use Rattle.images.specs.Choice.{level_at, decision_at, with_decided, with_target, with_most, level_in, greatest, with_chosen, chosen_by, leading, Listed, Chosen, chosen_for}
+use Rattle.images.specs.Choice.{level_at, decision_at, with_decided, with_target, with_most, level_in, greatest, with_chosen, chosen_by, leading, Listed, Chosen}
 use Rattle.images.specs.declared.deciding.Choice.{Choice}
+use Rattle.images.specs.declared.deciding.Rank.{Rank}
 use Rattle.rules.proofs.RuleSets.{bit_and_law, none_from, Member}
 
 -- turns that change nothing can be left out
@@ -32,7 +32,7 @@ fold_idle f a k (suc n) l idle = go (dec_le k n) (λ h. fold_idle f a k n h (λ 
     go (yes h) ih = idle n (fold_below n a f) h (omega arith) ∙ ih h
     go (no h) ih = let e : k ≡ suc n = omega arith in rw e
 
-module _ (fits : ℕ) (ranks targets : List ℕ) where
+module _ (fits : ℕ) (ranks : List Rank) (targets : List ℕ) where
   left_out : (best d k x : ℕ) → (bit fits k && eqb (level_at ranks k) best) ≡ false → with_chosen fits ranks targets best d k x ≡ x
   left_out best d k x e = rw e (go (eqb (decision_at ranks k) d))
     where
@@ -131,19 +131,5 @@ module _ (fits : ℕ) (ranks targets : List ℕ) where
       )
 
 -- every rule that matches a request and is enabled has its entries
-pub listed_both : (a b : ℕ) (ranks targets : List ℕ) → Listed b ranks targets → Listed (bit_and a b) ranks targets
+pub listed_both : (a b : ℕ) (ranks : List Rank) (targets : List ℕ) → Listed b ranks targets → Listed (bit_and a b) ranks targets
 listed_both a b ranks targets h k e = h k (and-true (bit a k) (bit b k) (sym (bit_and_law a b k) ∙ e)).1
-
--- both sets of request r are stored
-pub decided_turn : (sets : List ℕ) (enabled : ℕ) (ranks targets : List ℕ) (r : ℕ) (choice : Choice) (before after : List ℕ) → 2 * r + 2 ≤ length before
-    → Chosen (bit_and (get_or sets r 0) enabled) ranks targets (length ranks) choice → FilledUpTo (chosen_for sets enabled ranks targets) before (2 * r) after
-    → FilledUpTo (chosen_for sets enabled ranks targets) before (2 * (r + 1)) (set (set after (2 * r) choice.accepted.set) (2 * r + 1) choice.rejected.set)
-decided_turn sets enabled ranks targets r choice before after room chosen done =
-    let first : (2 * r - 0) / 2 ≡ r = omega arith in
-    let second : (2 * r + 1 - 0) / 2 ≡ r = omega arith in
-    let accepts : 1 - (2 * r - 0) % 2 ≡ 1 = omega arith in
-    let rejects : 1 - (2 * r + 1 - 0) % 2 ≡ 0 = omega arith in
-    let one = filled_turn done {x = choice.accepted.set} (omega arith) (rw (first, accepts) chosen.1) in
-    let two = filled_turn one {x = choice.rejected.set} (omega arith) (rw (second, rejects) chosen.2) in
-    let e : 2 * r + 1 + 1 ≡ 2 * (r + 1) = omega arith in
-    rw e at two

@@ -28,6 +28,7 @@ use Rattle.rules.proofs.Values.{enabling-same}
 use Rattle.rules.proofs.Changes.{carried_low}
 use Rattle.images.specs.Choice.{level_at, decision_at, Listed, level_in, with_most, greatest, with_chosen, leading, chosen_for}
 use Rattle.images.specs.Images.{rule_target, event_from, image_from, decided_from, DecidedBy, Prepared, image_entry, ImagesOf}
+use Rattle.images.specs.declared.deciding.Rank.{Rank}
 use Rattle.images.proofs.GreatestLevel.{by_level, seen, top}
 use Rattle.images.proofs.Choices.{leading-idle}
 use Rattle.images.proofs.Targets.{rule_target-same, event_from-same}
@@ -43,7 +44,7 @@ cond_same : (a b : Bool) (x y z : ℕ) → a ≡ b → x ≡ y → cond a x z �
 cond_same a b x y z e f = rw (e, f)
 
 -- ---- the decided requests, by the set of the rules that are enabled and the array of where they lead
-module _ (p bounds sets ranks values targets : List ℕ) (able : ℕ) (h : Prepared p bounds sets ranks) (enabled : able ≡ enabling p (entry_of values))
+module _ (p bounds sets : List ℕ) (ranks : List Rank) (values targets : List ℕ) (able : ℕ) (h : Prepared p bounds sets ranks) (enabled : able ≡ enabling p (entry_of values))
     (targeted : Tabled (rules p) (rule_target p (entry_of values)) targets) where
   able_below : (k : ℕ) → bit able k ≡ true → k < rules p
   able_below k e = passing-below (rule_enabled p (entry_of values)) (rules p) k (rw enabled at e)
@@ -58,10 +59,10 @@ module _ (p bounds sets ranks values targets : List ℕ) (able : ℕ) (h : Prepa
       )
 
   level-is : (k : ℕ) → k < rules p → level_at ranks k ≡ level_of p k
-  level-is k l = let two = h.passed.two_decisions k l in rw (h.ranked.entry k l) (omega arith)
+  level-is k l = ap (λ (r : Rank). r.level) (h.ranked.entry k l)
 
   decision-is : (k : ℕ) → k < rules p → decision_at ranks k ≡ decision p (rule p k)
-  decision-is k l = let two = h.passed.two_decisions k l in rw (h.ranked.entry k l) (omega arith)
+  decision-is k l = ap (λ (r : Rank). r.decision) (h.ranked.entry k l)
 
   module _ (v : ℕ) (valued : Tabled (variables p) (variable_in p v) values) where
     able-is : able ≡ enabling p (variable_in p v)

@@ -1,5 +1,5 @@
 -- What the arrays hold from which the images are filled, and the table of images.
-use Rattle.std.specs.Prelude.{◌≡◌, List, ℕ, ◌+◌, ◌*◌, ◌/◌, ◌%◌, ◌<◌, length, get_or}
+use Rattle.std.specs.Prelude.{◌≡◌, List, ℕ, ◌+◌, ◌*◌, ◌/◌, ◌%◌, ◌<◌, ◌≤◌, length, get_or}
 use Rattle.definitions.specs.Policy.{events, variables, rules, requests, width, rule, decision, level, change, event_change}
 use Rattle.definitions.specs.Valuation.{bound, valuations, variable_in}
 use Rattle.definitions.specs.Situation.{empty_set, insert, image}
@@ -7,10 +7,17 @@ use Rattle.policy.specs.Sized.{Passed}
 use Rattle.rules.specs.Arrays.{Tabled}
 use Rattle.rules.specs.RuleSets.{matching}
 use Rattle.rules.specs.Changes.{carried_by}
+use Rattle.images.specs.Choice.{unranked}
+use Rattle.images.specs.declared.deciding.Rank.{Rank}
 
--- the level and the decision of rule k as one number
-abbrev pub rule_rank : List ℕ → ℕ → ℕ
-rule_rank p k = 2 * level p (rule p k) + decision p (rule p k)
+-- the level and the decision of rule k
+abbrev pub rule_rank : List ℕ → ℕ → Rank
+rule_rank p k = record { level = level p (rule p k); decision = decision p (rule p k) }
+
+-- an array of the ranks of the rules
+pub record Ranked (p : List ℕ) (ranks : List Rank) : Type 0 where
+  pub room : rules p ≤ length ranks
+  pub entry : (k : ℕ) → k < rules p → get_or ranks k unranked ≡ rule_rank p k
 
 -- ---- where rules and events lead from the values x of the variables. At the values of valuation v these are by_rule and event_image
 abbrev pub rule_target : List ℕ → (ℕ → ℕ) → ℕ → ℕ
@@ -20,12 +27,12 @@ abbrev pub event_from : List ℕ → (ℕ → ℕ) → ℕ → ℕ
 event_from p x e = insert (carried_by p (event_change p e) x) empty_set
 
 -- what is made once for all valuations: the arrays of the bounds, of the rules that match each request, and of the ranks of the rules
-pub record Prepared (p bounds sets ranks : List ℕ) : Type 0 where
+pub record Prepared (p bounds sets : List ℕ) (ranks : List Rank) : Type 0 where
   pub passed : Passed p
   pub bounded : Tabled (variables p) (bound p) bounds
   pub counted : length sets ≡ requests p
   pub matched : Tabled (requests p) (matching p) sets
-  pub ranked : Tabled (rules p) (rule_rank p) ranks
+  pub ranked : Ranked p ranks
 
 -- ---- the images
 

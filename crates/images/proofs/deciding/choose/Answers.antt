@@ -1,54 +1,28 @@
 -- `images::deciding::choose` meets its contract. The loop's invariant: the choice is that among the rules below k, and `rest` has the other rules, shifted down by k.
-use mathlib.Core.Path.{sym, ◌∙◌}
-use Prim.Native.Nat.{◌<◌, ◌+◌}
-use native.Mathlib.Omega.{arith}
-use lib.ListN.{length, get_or}
-use lib.Pow.{shr_le}
+use Rattle.std.proofs.Common.{sym, ◌∙◌, ◌<◌, ◌+◌, arith, length, get_or}
 use Rattle.rules.proofs.RuleSets.{Member, lowest_member, left-next}
 use Rattle.images.proofs.Choices.{chosen_turn, chosen_done}
 use Rattle.images.proofs.deciding.choose.Goals.{After-lowest-zeros}
 use Rattle.images.proofs.deciding.choose.Goals as goal
 
-member : (c : After-lowest-zeros)
-    → let loop = c.loop-rest in
-    Member c.args.fits loop.k (loop.k + c.lowest-zeros.result)
+member : (c : After-lowest-zeros) → Member c.args.fits c.loop-rest.k (c.loop-rest.k + c.lowest-zeros.result)
 member c =
     let loop = c.loop-rest in
     lowest_member c.args.fits loop.k loop.rest c.lowest-zeros.result (omega arith) loop.invariant.1 c.loop-rest-test.true c.lowest-zeros.ensures
 
 listed : (c : After-lowest-zeros)
-    → let a = c.args in
-    let m = c.loop-rest.k + c.lowest-zeros.result in
-    (m < length a.ranks.now) × (m < length a.targets.now) × (get_or a.targets.now m 0 < 64)
+    → let m = c.loop-rest.k + c.lowest-zeros.result in
+    (m < length c.args.ranks.now) × (m < length c.args.targets.now) × (get_or c.args.targets.now m 0 < 64)
 listed c = c.requires (c.loop-rest.k + c.lowest-zeros.result) (member c).here
-
-pub overflow_add-k : goal.overflow_add-k
-overflow_add-k c = omega (arith, (member c).below)
-
-pub offset_bounds-ranks-k : goal.offset_bounds-ranks-k
-offset_bounds-ranks-k c = omega (arith, (member c).below)
 
 pub bounds-ranks-k : goal.bounds-ranks-k
 bounds-ranks-k c = (listed (goal.at.bounds-ranks-k c).After-lowest-zeros).0
-
-pub offset_bounds-targets-k : goal.offset_bounds-targets-k
-offset_bounds-targets-k c = omega (arith, (member (goal.at.offset_bounds-targets-k c).After-lowest-zeros).below)
 
 pub bounds-targets-k : goal.bounds-targets-k
 bounds-targets-k c = (listed (goal.at.bounds-targets-k c).After-lowest-zeros).1
 
 pub with_rule-choice-requires : goal.with_rule-choice-requires
 with_rule-choice-requires c = (listed (goal.at.with_rule-choice-requires c).After-lowest-zeros).2
-
-pub overflow_shr-rest : goal.overflow_shr-rest
-overflow_shr-rest c = omega (arith, (member (goal.at.overflow_shr-rest c).After-lowest-zeros).below)
-
-pub overflow_add-k-in-loop-rest : goal.overflow_add-k-in-loop-rest
-overflow_add-k-in-loop-rest c = omega (arith, (member (goal.at.overflow_add-k-in-loop-rest c).After-lowest-zeros).below)
-
-pub loop-rest-smaller : goal.loop-rest-smaller
-loop-rest-smaller c =
-    let h = shr_le c.loop-rest.rest c.lowest-zeros.result in omega (arith, c.loop-rest-test.true, h)
 
 pub loop-rest-preserved : goal.loop-rest-preserved
 loop-rest-preserved c =
