@@ -15,7 +15,8 @@ ghost use Rattle.join.specs.Numbers.{NamesFirst, first_states, class_numbers, St
 use refine::table::Table;
 
 // State `s` gets its number in place of its class: the next one, if it is the first of its class, and else that of its class. A first state goes to the end
-// of the `count` in `order`. Returns how many there are then. The count stands beside the array, since nothing here is on a heap.
+// of the `count` in `order`. Returns how many there are then.
+// The count stands beside the array, since nothing here is on a heap.
 fn number_state(numbers: &mut [u8], order: &mut [u8], count: usize, s: usize) -> usize
     requires { (s < length numbers.old) × (s < 128) × (byte numbers.old s ≤ s) × (count < length order.old) × (count < 128) }
     ensures value { result ≡ cond (eqb (byte numbers.old s) s) (count + 1) count }

