@@ -3,14 +3,12 @@ ghost use Rattle.std.specs.Prelude.{◌≡◌, ◌≤◌, ◌<◌, length};
 ghost use Rattle.definitions.specs.Book as Book;
 ghost use Rattle.definitions.specs.Checked.{BookHeader, BookLayout};
 
-use automaton::wide;
-
 // E, the number of events.
 pub fn events(book: &[u8]) -> usize
     requires { 12 ≤ length book.now }
     ensures { result ≡ Book.events book.now }
 {
-    wide(book[5])
+    usize::from(book[5])
 }
 
 // n, the number of states.
@@ -18,7 +16,7 @@ pub fn states(book: &[u8]) -> usize
     requires { 12 ≤ length book.now }
     ensures { result ≡ Book.states book.now }
 {
-    wide(book[11])
+    usize::from(book[11])
 }
 
 // Q, the product of the value counts.
@@ -26,12 +24,10 @@ pub fn requests(book: &[u8]) -> usize
     requires { (12 ≤ length book.now) × (Book.fields book.now ≤ 4) }
     ensures { result ≡ Book.requests book.now }
 {
-    let fields = wide(book[6]);
+    let fields = usize::from(book[6]);
     let mut product = 1;
-    let mut f = 0;
-    while f < fields {
-        product *= wide(book[7 + f]);
-        f += 1;
+    for f in 0..fields {
+        product *= usize::from(book[7 + f]);
     }
     product
 }
@@ -60,5 +56,5 @@ pub fn entry(book: &[u8], width: usize, s: usize, c: usize) -> usize
     ensures { result ≡ Book.entry book.now s c }
 {
     let at = 12 + (s - 1) * width + c;
-    wide(book[at])
+    usize::from(book[at])
 }

@@ -30,5 +30,5 @@ bounds-book-at c = omega (arith, place (goal.at.bounds-book-at c).Start)
 pub returns : goal.returns
 returns c =
     let a = c.args in
-    c.wide.ensures.0 ∙ ap (λ (w : ℕ). byte a.book.now (12 + (a.s - 1) * w + a.c)) c.requires.width_value.0
+    c.from.ensures ∙ ap (λ (w : ℕ). byte a.book.now (12 + (a.s - 1) * w + a.c)) c.requires.width_value.0
     ∙ sym (get_or-drop (12 + (a.s - 1) * width a.book.now) a.book.now a.c 0)
