@@ -15,7 +15,7 @@ use book::Book;
 pub use finding::Found;
 use finding::{find, find_blocked};
 use requests::Sought;
-use search::explore_book;
+use search::Search;
 
 // The three findings. The history of each that is found is at the front of its buffer; of the third, how many codes it has.
 #[derive(Clone, Copy, Debug, PartialEq, Eq)]
@@ -34,13 +34,11 @@ pub fn find_all(book: Book, conflict: &mut [u8], missing: &mut [u8], blocked: &m
     ensures missing_after { missing.new ≡ written (history_bytes (Verdict.found_history (Verdict.missing book.entry.bytes.now))) missing.old }
     ensures blocked_after { blocked.new ≡ written (history_bytes (Verdict.blocked book.entry.bytes.now)) blocked.old }
 {
-    let mut order = [0u8; 128];
-    let mut trail = [0u8; 256];
-    let mut numbers = [0u8; 128];
-    let n = explore_book(book.bytes, book.width, &mut order, &mut trail, &mut numbers);
-    let first = find(book, &order, &trail, n, Sought::Conflict, conflict);
-    let second = find(book, &order, &trail, n, Sought::Missing, missing);
-    let third = find_blocked(book, &order, &trail, n, second, blocked);
+    let mut search = Search::<128, 256>::new();
+    search.explore_book(book.bytes, book.width);
+    let first = find(book, &search, Sought::Conflict, conflict);
+    let second = find(book, &search, Sought::Missing, missing);
+    let third = find_blocked(book, &search, second, blocked);
     Findings {
         conflict: first,
         missing: second,

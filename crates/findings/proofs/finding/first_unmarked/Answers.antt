@@ -7,12 +7,12 @@ use Rattle.findings.specs.Marks.{marked, unmarked_at}
 use Rattle.findings.proofs.LowestBelow.{lowest_hit, lowest-end}
 use Rattle.findings.proofs.finding.first_unmarked.Goals as goal
 
-pub returns-then-not-marks-from : goal.returns-then-not-marks-from
-returns-then-not-marks-from c =
+pub returns-then-not-marks-state : goal.returns-then-not-marks-state
+returns-then-not-marks-state c =
     let a = c.args in
     let l = c.loop-i in
-    let is : marked a.marks.now (byte a.order.now l.i) ≡ false = rw c.from.ensures at c.if-not-marks-from.true in
-    (c.loop-i-test.true, lowest_hit (unmarked_at a.marks.now a.order.now) a.n l.i l.invariant c.loop-i-test.true (ap not is))
+    let is : marked a.marks.now (byte a.search.now.order l.i) ≡ false = rw c.state.ensures at c.if-not-marks-state.true in
+    ((omega (arith, c.count-i-end.ensures)), lowest_hit (unmarked_at a.marks.now a.search.now.order) a.search.now.count l.i l.invariant (omega (arith, c.count-i-end.ensures)) (ap not is))
 
 pub returns : goal.returns
-returns c = let a = c.args in let l = c.loop-i in lowest-end (unmarked_at a.marks.now a.order.now) a.n l.i l.invariant c.loop-i-test.false (omega arith)
+returns c = let a = c.args in let l = c.loop-i in lowest-end (unmarked_at a.marks.now a.search.now.order) a.search.now.count l.i l.invariant (omega (arith, c.count-i-end.ensures)) (omega (arith, c.count-i-end.ensures))

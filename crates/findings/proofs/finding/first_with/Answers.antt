@@ -12,23 +12,23 @@ pub returns-in-Some : goal.returns-in-Some
 returns-in-Some c =
     let a = c.args in
     let b = a.book.bytes.now in
-    let l = c.loop-k in
-    let test = test_of a.sought b (byte a.order.now l.k) in
-    let found : IsLowest (requests b) test (Some c.in-Some.request) = rw c.from.ensures at c.in-Some.ensures in
+    let l = c.loop-place in
+    let test = test_of a.sought b (byte a.search.now.order l.place) in
+    let found : IsLowest (requests b) test (Some c.in-Some.request) = rw c.state.ensures at c.in-Some.ensures in
     record {
-      within = c.loop-k-test.true;
-      first = lowest_hit (some_at a.sought b a.order.now) a.n l.k l.invariant c.loop-k-test.true (any-lowest test (requests b) (Some c.in-Some.request) found);
+      within = omega (arith, c.count-place-end.ensures);
+      first = lowest_hit (some_at a.sought b a.search.now.order) a.search.now.count l.place l.invariant (omega (arith, c.count-place-end.ensures)) (any-lowest test (requests b) (Some c.in-Some.request) found);
       lowest = found.1;
     }
 
-pub loop-k-preserved : goal.loop-k-preserved
-loop-k-preserved c =
+pub loop-place-preserved : goal.loop-place-preserved
+loop-place-preserved c =
     let a = c.args in
     let b = a.book.bytes.now in
-    let l = c.loop-k in
-    let test = test_of a.sought b (byte a.order.now l.k) in
-    let none : IsLowest (requests b) test None = rw c.from.ensures at c.in_default.ensures in
+    let l = c.loop-place in
+    let test = test_of a.sought b (byte a.search.now.order l.place) in
+    let none : IsLowest (requests b) test None = rw c.state.ensures at c.in_default.ensures in
     below_more _ _ l.invariant (any-lowest test (requests b) None none)
 
 pub returns : goal.returns
-returns c = let a = c.args in let l = c.loop-k in lowest-end (some_at a.sought a.book.bytes.now a.order.now) a.n l.k l.invariant c.loop-k-test.false (omega arith)
+returns c = let a = c.args in let l = c.loop-place in lowest-end (some_at a.sought a.book.bytes.now a.search.now.order) a.search.now.count l.place l.invariant (omega (arith, c.count-place-end.ensures)) (omega (arith, c.count-place-end.ensures))
