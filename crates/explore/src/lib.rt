@@ -60,7 +60,7 @@ impl Images<'_> {
 fn index_of(found: &[u64], x: Situation) -> Option<usize>
     ensures { result ≡ position (λ set. eqb set x.set) found.now }
 {
-    found.iter().position(|set| *set == x.set)
+    found.iter().position(|set| Situation { set: *set } == x)
 }
 
 // The number of `x` among those found, which counts from 1. No hint says that it is not there.
@@ -73,15 +73,15 @@ fn number_by(found: &[u64], x: Situation, hint: Option<usize>) -> Option<usize>
     Some(index + 1)
 }
 
-// Whether the state at an index, where one was found, is `x`.
-fn is_number(found: &[u64], x: Situation, index: usize) -> bool
+// Whether `x` stands at an index of those found.
+fn stands_at(found: &[u64], x: Situation, index: usize) -> bool
     ensures { result ≡ is_number found.now (length found.now) x.set (index + 1) }
 {
     index < found.len() && Situation { set: found[index] } == x
 }
 
-// The number of a state among the first `n` found, where a new one is put in after them. No hint says that it is new. The array and its count stand apart
-// here and below: fixed memory.
+// The number of a state among the first `n` found, where a new one is put in after them. No hint says that it is new. The array and its count stand apart,
+// here and below: fixed memory, which the caller has on its stack.
 fn enter(found: &mut [u64], n: usize, x: Situation, hint: Option<usize>) -> usize
     requires { (n < length found.old) × (0 < x.set) × (hint ≡ None → place_of (eqb x.set) (take n found.old) ≡ 0) }
     ensures value { result ≡ number_among (add_state (take n found.old) x.set) x.set }
@@ -108,7 +108,7 @@ fn note(found: &mut [u64], n: usize, x: Situation, hints: &mut [u8; 256]) -> Opt
     let at = (x.set % 251) as usize;
     let hint = usize::from(hints[at]).checked_sub(1);
     if let Some(index) = hint {
-        if is_number(&found[..n], x, index) {
+        if stands_at(&found[..n], x, index) {
             return Some(index + 1);
         }
     }
@@ -171,7 +171,7 @@ fn explore_in(
     found[0] = start.set;
     let mut n = 1;
     let mut s = 0;
-    // `n` grows in the body.
+    // a `while`: `n` grows in the body
     while s < n {
         let situation = Situation { set: found[s] };
         let at = s * images.width;
@@ -182,12 +182,7 @@ fn explore_in(
 }
 
 // The same, with arrays for room.
-pub fn explore(
-    images: Images,
-    start: Situation,
-    found: &mut [u64],
-    raw: &mut [u8],
-) -> Option<usize>
+pub fn explore(images: Images, start: Situation, found: &mut [u64], raw: &mut [u8]) -> Option<usize>
     requires state { 0 < start.set }
     requires room { (128 ≤ length found.old) × RowsFit (images_machine images.sets.now images.valuations images.width start.set) (length raw.old) }
     ensures { MatchOption result
@@ -197,5 +192,12 @@ pub fn explore(
     let mut next = [0u64; 136];
     let mut hints = [0u8; 256];
     hints[(start.set % 251) as usize] = 1;
-    explore_in(images, start, found, raw, &mut next[..images.width], &mut hints)
+    explore_in(
+        images,
+        start,
+        found,
+        raw,
+        &mut next[..images.width],
+        &mut hints,
+    )
 }

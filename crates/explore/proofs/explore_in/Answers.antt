@@ -12,7 +12,7 @@ use Rattle.automaton.specs.Machine.{Machine, is_state}
 use lib.ListN.{length-drop}
 use native.Mathlib.Omega.{arith}
 use mathlib.Core.Bool.{true}
-use mathlib.Core.Path.{◌≡◌, refl, ◌∙◌}
+use mathlib.Core.Path.{◌≡◌, refl}
 use Rattle.explore.proofs.explore_in.Goals as goal
 
 -- what is reached from a start that is a state

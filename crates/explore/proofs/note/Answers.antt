@@ -8,7 +8,7 @@ use borrow.Author.Tests.{eqb-true, eqb-false}
 use native.Mathlib.Omega.{arith}
 use Prim.Native.Nat.{◌%◌, ◌<◌, ◌+◌}
 use mathlib.Core.Path.{sym, ◌∙◌}
-use Rattle.explore.proofs.note.Goals.{Else-is_empty, in-Some+else-is_number, in_default}
+use Rattle.explore.proofs.note.Goals.{Else-is_empty, in-Some+else-stands_at, in_default}
 use Rattle.explore.proofs.note.Goals as goal
 
 -- the set is not empty
@@ -24,19 +24,21 @@ returns-then-is_empty c =
     let none = eqb-true a.x.set 0 (sym c.is_empty.ensures ∙ c.if-is_empty.true) in
     let noted = note_none a.found.now a.n a.x.set c.requires.0 none in record { value = none-positive _ noted.0; found_after = noted.1; hinted = hinted_none _ _ a.x.set none c.requires.3 }
 
-pub returns-then-is_number : goal.returns-then-is_number
-returns-then-is_number c =
+pub returns-then-stands_at : goal.returns-then-stands_at
+returns-then-stands_at c =
     let a = c.args in
     let k = c.in-Some.index in
-    let is = sym c.is_number.ensures ∙ c.if-is_number.true in
+    let is = sym c.stands_at.ensures ∙ c.if-stands_at.true in
     let noted = note_hint a.found.now a.n a.x.set c.requires.0 k is c.requires.2 in
     let within = hint-within a.found.now a.n a.x.set c.requires.0 k is in
-    record { value = some-positive (k + 1) _ (omega arith) noted.0; found_after = noted.1; hinted = hinted_known _ _ a.x.set (k + 1) (some (goal.at.returns-then-is_number c).Else-is_empty) noted.0 within c.requires.3 }
+    record { value = some-positive (k + 1) _ (omega arith) noted.0; found_after = noted.1; hinted = hinted_known _ _ a.x.set (k + 1) (some (goal.at.returns-then-stands_at c).Else-is_empty) noted.0 within c.requires.3 }
 
 pub enter-number-requires : goal.enter-number-requires
-enter-number-requires c =
-    (c.requires.0, some (goal.at.enter-number-requires c).Else-is_empty,
-    λ z. elim c.match-hint.branch [ in-Some+else-is_number w ↦ absurd cc | in_default w ↦ unhinted _ _ c.args.x.set c.requires.3 (omega (arith, w.in_default.ensures, c.from.ensures)) ])
+enter-number-requires c = (
+  c.requires.0,
+  some (goal.at.enter-number-requires c).Else-is_empty,
+  λ z. elim c.match-hint.branch [ in-Some+else-stands_at w ↦ absurd cc | in_default w ↦ unhinted _ _ c.args.x.set c.requires.3 (omega (arith, w.in_default.ensures, c.from.ensures)) ],
+)
 
 pub overflow_cast-hints : goal.overflow_cast-hints
 overflow_cast-hints c =

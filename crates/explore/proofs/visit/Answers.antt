@@ -1,5 +1,5 @@
 -- `visit` meets its contract: after c turns the codes below c have been tried.
-use Rattle.explore.proofs.SituationVisits.{CodesTried, tried_begun, tried-room, tried-once, tried-row, tried-low, tried-turn, tried-over, tried-done}
+use Rattle.explore.proofs.SituationVisits.{tried_begun, tried-room, tried-once, tried-row, tried-low, tried-turn, tried-over, tried-done}
 use Rattle.explore.proofs.SetRows.{row-long, row_step}
 use Rattle.explore.proofs.StatePlaces.{unwrap-positive}
 use Rattle.explore.proofs.Hints.{hinted_turn}
