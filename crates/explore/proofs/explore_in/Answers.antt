@@ -1,5 +1,5 @@
 -- `explore_in` meets its contract: after s turns the first s situations have been visited.
-use Rattle.explore.proofs.ReachedStates.{reached_begun, reaches_from, reached-long, reached-row, reached-over, reached-turn, reached-done}
+use Rattle.explore.proofs.ReachedStates.{reached_begun, reaches_from, reached-row, reached-over, reached-turn, reached-done}
 use Rattle.definitions.proofs.SearchArray.{searched_room, searched-state, searched_done}
 use Rattle.automaton.proofs.Loops.{part_is-drop}
 use Rattle.automaton.proofs.Machine.{is_state_law}
@@ -33,12 +33,6 @@ loop-s-init c =
       reached = reached_begun m (all_reached m) a.found.now a.raw.now p.room.0 p.rows_fit (all m) begins (sound m begins);
       hinted = hinted_first a.found.now a.hints.now a.start.set (omega (arith, p.room.0)) p.start_is_hinted.1;
     }
-
-pub overflow_mul-at : goal.overflow_mul-at
-overflow_mul-at c =
-    let h = reached-row c.loop-s.invariant.reached c.loop-s-test.true in
-    let e = reached-long c.loop-s.invariant.reached in
-    omega arith
 
 pub slice_bounds-visit-count : goal.slice_bounds-visit-count
 slice_bounds-visit-count c =

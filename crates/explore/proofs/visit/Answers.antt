@@ -1,5 +1,5 @@
 -- `visit` meets its contract: after c turns the codes below c have been tried.
-use Rattle.explore.proofs.SituationVisits.{tried_begun, tried-room, tried-once, tried-row, tried-low, tried-turn, tried-over, tried-done}
+use Rattle.explore.proofs.SituationVisits.{tried_begun, tried-room, tried-once, tried-low, tried-turn, tried-over, tried-done}
 use Rattle.explore.proofs.SetRows.{row-long, row_step}
 use Rattle.explore.proofs.StatePlaces.{unwrap-positive}
 use Rattle.explore.proofs.Hints.{hinted_turn}
@@ -55,20 +55,13 @@ overflow_cast-row c =
     let h = tried-low (c.loop-c.invariant.tried 0) below (led at.In-loop-c 0) (number at.After-unwrap_or-number) c.note.ensures.found_after in
     omega arith
 
-pub bounds-row-c : goal.bounds-row-c
-bounds-row-c c =
-    let t = c.loop-c.invariant.tried 0 in
-    omega (arith, tried-row t, t.long, inside (goal.at.bounds-row-c c).In-loop-c)
-
-pub returns-then-k-gt127 : goal.returns-then-k-gt127
-returns-then-k-gt127 c =
-    let at = goal.at.returns-then-k-gt127 c in
-    let below = inside at.In-loop-c in record {
-      visited = λ start.
-          tried-over (c.loop-c.invariant.tried start) below (led at.In-loop-c start) (number at.After-unwrap_or-number) c.note.ensures.found_after
-          (omega (arith, c.max-k.ensures, c.if-k-gt127.true));
-      hinted = tt;
-    }
+pub returns-then-k-gt127-clause-visited : goal.returns-then-k-gt127-clause-visited
+returns-then-k-gt127-clause-visited c =
+    let at = goal.at.returns-then-k-gt127-clause-visited c in
+    let below = inside at.In-loop-c in
+    λ start.
+    tried-over (c.loop-c.invariant.tried start) below (led at.In-loop-c start) (number at.After-unwrap_or-number) c.note.ensures.found_after
+    (omega (arith, c.max-k.ensures, c.if-k-gt127.true))
 
 pub loop-c-preserved : goal.loop-c-preserved
 loop-c-preserved c =
@@ -84,8 +77,9 @@ loop-c-preserved c =
           e is n.found_after n.hinted;
     }
 
-pub returns : goal.returns
-returns c =
+pub returns-clause-visited : goal.returns-clause-visited
+returns-clause-visited c =
     let a = c.args in
-    let all : a.images.width ≤ c.loop-c.c = omega (arith, c.loop-c-test.false, row-long a.images.sets.now a.images.width a.situation.set a.images.valuations c.step_all.ensures) in
-    record { visited = ((c.loop-c.invariant.tried 0).few, λ start. tried-done (c.loop-c.invariant.tried start) all); hinted = c.loop-c.invariant.hinted }
+    let all : a.images.width ≤ c.loop-c.c =
+    omega (arith, c.loop-c-test.false, row-long a.images.sets.now a.images.width a.situation.set a.images.valuations c.step_all.ensures) in
+    ((c.loop-c.invariant.tried 0).few, λ start. tried-done (c.loop-c.invariant.tried start) all)

@@ -1,14 +1,7 @@
--- `add_images` meets its contract: the images are put in, or nothing changes.
-use Rattle.explore.proofs.SetRows.{images-in, images-out}
-use Rattle.automaton.proofs.Loops.{part_is-drop}
+-- `add_images` meets its contract: where the valuation is not there, nothing changes.
+use Rattle.explore.proofs.SetRows.{images-out}
 use mathlib.Core.Path.{sym, ◌∙◌}
 use Rattle.explore.proofs.Images.add_images.Goals as goal
-
-pub returns-then-has : goal.returns-then-has
-returns-then-has c =
-    let a = c.args in
-    let is = sym c.has.ensures ∙ c.if-has.true in
-    rw part_is-drop at c.unite.ensures ∙ images-in a.self.sets.now a.self.width a.situation.set a.v a.next.now c.requires.1 is
 
 pub returns-else-has : goal.returns-else-has
 returns-else-has c =
