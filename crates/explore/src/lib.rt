@@ -1,7 +1,7 @@
 // Breadth-first search over the situations of a policy, by its table of images. A slice holds a situation as its word.
 #![tactic(auto)]
 
-ghost use Rattle.std.specs.Prelude.{◌≡◌, ◌+◌, ◌*◌, ◌%◌, ◌<◌, ◌≤◌, ◌≢◌, eqb, length, take, position, IfSome, MatchOption};
+ghost use Rattle.std.specs.Prelude.{◌≡◌, ◌+◌, ◌*◌, ◌%◌, ◌<◌, ◌≤◌, eqb, length, take, position, IfSome, MatchOption};
 ghost use Rattle.automaton.specs.Below.{place_of};
 ghost use Rattle.definitions.specs.Answer.{written};
 ghost use Rattle.definitions.specs.Bytes.{byte};
