@@ -3,7 +3,7 @@
 use mathlib.Core.Path.{◌≡◌, refl, sym, ◌∙◌, subst}
 use mathlib.Core.Bool.{Bool, cond, true, false, true≢false, not, ◌||◌}
 use mathlib.Core.Logic.{◌⊎◌, inl, inr}
-use mathlib.Core.List.{List, ◌∷◌}
+use mathlib.Core.List.{List, [], ◌∷◌}
 use Prim.Native.Nat.{ℕ, zero, suc, ◌+◌, ◌≤◌, ◌<◌}
 use native.Mathlib.Decide.{ℕ_discrete}
 use native.Mathlib.Numerals.{add-one}
@@ -15,9 +15,24 @@ use Rattle.automaton.specs.Below.{any_below, one}
 use Rattle.automaton.proofs.Below.{below_suc, and-true, any_below_at, count-below_le, count-below_grows}
 use Rattle.definitions.specs.Book.{events, states, entry}
 use Rattle.definitions.specs.Demands.{Events}
+use Rattle.definitions.specs.Telling.{some_request, answered}
 use Rattle.definitions.specs.Checked.{BookPassed}
 use Rattle.definitions.proofs.BookSteps.{step-is-entry}
 use Rattle.findings.specs.Marks.{marked, count_marks, marked_successor, gains, with_gain, AnswersLater, Marks}
+
+-- ---- the first marks
+-- the last of the states is marked where it answers a request, as those before it are
+pub answering_marks : (b : List ℕ) (marks : List Bool) (s : ℕ) (x : Bool) → 128 ≤ length marks → s < 128 → states b ≤ s → x ≡ some_request answered b s
+    → ((t : ℕ) → 1 ≤ t → t < s → marked marks t ≡ some_request answered b t) → Marks b (set marks s x)
+answering_marks b marks s x room few last e are = record {
+  room = rw length-set room;
+  full = λ t p q a. is t p q (ℕ_discrete t s) ∙ a;
+  sound = λ t p q a. record { list = []; events = λ i k. absurd (omega arith); answers = sym (is t p q (ℕ_discrete t s)) ∙ a };
+}
+  where
+    is : (t : ℕ) → 1 ≤ t → t ≤ states b → Dec (t ≡ s) → marked (set marks s x) t ≡ some_request answered b t
+    is t p q (yes i) = rw i (get_or-set_same marks s x false (omega arith) ∙ e)
+    is t p q (no n) = get_or-set_other marks s t x false n ∙ are t p (omega arith)
 
 -- ---- one state
 module _ (marks : List Bool) (s : ℕ) (room : s < length marks) where
