@@ -24,6 +24,7 @@ fn put_history(out: &mut [u8], at: usize, history: &[u8]) -> usize
 }
 
 // A request and a history, to the end of the line.
+#[tactic(auto, using(text::proofs::Puts::then))]
 fn put_request(out: &mut [u8], at: usize, request: usize, history: &[u8]) -> usize
     requires { at + 4 * length history.now + 8 ≤ length out.old }
     ensures put { Put out.old at (found_text (some (record { request = request; history = history.now })) ++ (newline ∷ [])) out.new result }
@@ -48,6 +49,7 @@ fn put_found(out: &mut [u8], at: usize, word: &[u8], finding: Option<Found>, buf
 }
 
 // The line of blocked: the history at the front of the buffer, or that there is none.
+#[tactic(auto, using(text::proofs::Puts::then))]
 fn put_blocked(out: &mut [u8], at: usize, blocked: Option<usize>, buffer: &[u8]) -> usize
     requires { (length buffer.now ≤ 128) × (at + 529 ≤ length out.old) }
     ensures put { Put out.old at (line blocked_word (blocked_text (blocked_of blocked buffer.now))) out.new result }
