@@ -1,9 +1,9 @@
 -- Marks spread backwards along the events of a book. A mark is put only on a state from which a request is answered later, and each round that marks a
 -- state makes them more.
 use mathlib.Core.Path.{◌≡◌, refl, sym, ◌∙◌, subst}
-use mathlib.Core.Bool.{Bool, cond, true, false, true≢false, not, and-false, ◌||◌}
+use mathlib.Core.Bool.{Bool, cond, true, false, true≢false, not, ◌||◌}
 use mathlib.Core.Logic.{◌⊎◌, inl, inr}
-use mathlib.Core.List.{List, [], ◌∷◌}
+use mathlib.Core.List.{List, ◌∷◌}
 use Prim.Native.Nat.{ℕ, zero, suc, ◌+◌, ◌≤◌, ◌<◌}
 use native.Mathlib.Decide.{ℕ_discrete}
 use native.Mathlib.Numerals.{add-one}
@@ -15,54 +15,11 @@ use Rattle.automaton.specs.Below.{any_below, one}
 use Rattle.automaton.proofs.Below.{below_suc, and-true, any_below_at, count-below_le, count-below_grows}
 use Rattle.definitions.specs.Book.{events, states, entry}
 use Rattle.definitions.specs.Demands.{Events}
-use Rattle.definitions.specs.Telling.{some_request, answered}
 use Rattle.definitions.specs.Checked.{BookPassed}
 use Rattle.definitions.proofs.BookSteps.{step-is-entry}
-use Rattle.findings.specs.Marks.{marked, count_marks, marked_successor, gains, with_gain, AnswersLater, Marks, FixedPoint}
-
--- ---- the first marks
--- the states below s are marked where they answer a request
-pub record Begun (b : List ℕ) (marks : List Bool) (s : ℕ) : Type 0 where
-  pub room : 128 ≤ length marks
-  pub some : 1 ≤ s
-  pub are : (t : ℕ) → 1 ≤ t → t < s → marked marks t ≡ some_request answered b t
-
-pub begun_none : (b : List ℕ) (marks : List Bool) → 128 ≤ length marks → Begun b marks 1
-begun_none b marks room = record { room = room; some = omega arith; are = λ t p l. absurd (omega arith) }
-
-module _ (b : List ℕ) (marks : List Bool) (s : ℕ) (S : Begun b marks s) where
-  pub begun_more : s < 128 → (x : Bool) → x ≡ some_request answered b s → Begun b (set marks s x) (s + 1)
-  begun_more l x e = record { room = rw length-set S.room; some = omega arith; are = λ t p q. go t p (below_suc t s (rw add-one at q)) }
-    where
-      go : (t : ℕ) → 1 ≤ t → (t < s) ⊎ (t ≡ s) → marked (set marks s x) t ≡ some_request answered b t
-      go t p (inl q) = get_or-set_other marks s t x false (omega arith) ∙ S.are t p q
-      go t p (inr q) = rw q (get_or-set_same marks s x false (omega (arith, S.room)) ∙ e)
-
-  pub begun_all : states b < s → Marks b marks
-  begun_all l = record {
-    room = S.room;
-    full = λ t p q e. is t p q ∙ e;
-    sound = λ t p q e. record { list = []; events = λ i k. absurd (omega arith); answers = sym (is t p q) ∙ e };
-  }
-    where
-      is : (t : ℕ) → 1 ≤ t → t ≤ states b → marked marks t ≡ some_request answered b t
-      is t p q = S.are t p (omega arith)
+use Rattle.findings.specs.Marks.{marked, count_marks, marked_successor, gains, with_gain, AnswersLater, Marks}
 
 -- ---- one state
--- the ways that looking at state s ends
-module _ (b : List ℕ) (marks : List Bool) (s : ℕ) where
-  abbrev Gained : Bool → List Bool → Type 0
-  Gained r marks' = (r ≡ gains b marks s) × (marks' ≡ with_gain b marks s)
-
-  pub gain_marked : marked marks s ≡ true → Gained false marks
-  gain_marked e = rw e (refl, refl)
-
-  pub gain_none : any_below (events b) (marked_successor b marks s) ≡ false → Gained false marks
-  gain_none e = rw (e, and-false) (refl, refl)
-
-  pub gain_new : marked marks s ≡ false → any_below (events b) (marked_successor b marks s) ≡ true → Gained true (set marks s true)
-  gain_new e f = rw (e, f) (refl, refl)
-
 module _ (marks : List Bool) (s : ℕ) (room : s < length marks) where
   marked_new : marked (set marks s true) s ≡ true
   marked_new = get_or-set_same marks s true false room
@@ -134,17 +91,11 @@ pub record Round (b : List ℕ) (marks₀ marks : List Bool) (gained : Bool) (s 
   pub count : count_marks marks₀ + one gained ≤ count_marks marks
   pub fixed : gained ≡ false → (t : ℕ) → 1 ≤ t → t < s → gains b marks t ≡ false
 
-pub round_begun : (b : List ℕ) (marks : List Bool) → Marks b marks → Round b marks marks false 1
-round_begun b marks M = record { are = M; some = omega arith; count = omega arith; fixed = λ e t p l. absurd (omega arith) }
-
 pub count-few : (marks : List Bool) → count_marks marks ≤ 128
 unfolding count_marks
 count-few marks = count-below_le 128 (marked marks)
 
 module _ (b : List ℕ) (p : BookPassed b) (marks₀ marks : List Bool) (gained : Bool) (s : ℕ) (S : Round b marks₀ marks gained s) where
-  pub round_done : states b < s → gained ≡ false → FixedPoint b marks
-  round_done l e t q k = S.fixed e t q (omega arith)
-
   more : s ≤ states b → (g : Bool) → gains b marks s ≡ g → Round b marks₀ (cond g (set marks s true) marks) (gained || g) (s + 1)
   more l g e = record {
     are = subst (λ (x : Bool). Marks b (cond x (set marks s true) marks)) e (gain_marks b p marks S.are s S.some l);

@@ -27,12 +27,7 @@ pub struct Findings {
 
 // The findings on a book. The history of each that is found goes to the front of its buffer; the bytes after it are unchanged, and so is all of the buffer of a
 // finding that is none.
-pub fn find_all(
-    book: Book,
-    conflict: &mut [u8],
-    missing: &mut [u8],
-    blocked: &mut [u8],
-) -> Findings
+pub fn find_all(book: Book, conflict: &mut [u8], missing: &mut [u8], blocked: &mut [u8]) -> Findings
     requires { (128 ≤ length conflict.old) × (128 ≤ length missing.old) × (128 ≤ length blocked.old) }
     ensures answer { findings_of result conflict.new missing.new blocked.new ≡ Verdict.findings book.entry.bytes.now }
     ensures conflict_after { conflict.new ≡ written (history_bytes (Verdict.found_history (Verdict.conflict book.entry.bytes.now))) conflict.old }
@@ -42,13 +37,7 @@ pub fn find_all(
     let mut order = [0u8; 128];
     let mut trail = [0u8; 256];
     let mut numbers = [0u8; 128];
-    let n = explore_book(
-        book.bytes,
-        book.width,
-        &mut order,
-        &mut trail,
-        &mut numbers,
-    );
+    let n = explore_book(book.bytes, book.width, &mut order, &mut trail, &mut numbers);
     let first = find(book, &order, &trail, n, Sought::Conflict, conflict);
     let second = find(book, &order, &trail, n, Sought::Missing, missing);
     let third = find_blocked(book, &order, &trail, n, second, blocked);

@@ -1,5 +1,4 @@
 -- `first_with` meets its contract: the states at the places below k have no request that is sought.
-use mathlib.Core.Path.{◌≡◌}
 use native.Mathlib.Omega.{arith}
 use borrow.Author.Count.{below_more}
 use Rattle.std.specs.Prelude.{None, Some}

@@ -29,4 +29,4 @@ returns c =
     let a = c.args in
     let l = c.loop-r in
     lowest-end (test_of a.sought a.book.bytes.now a.state) (requests a.book.bytes.now) l.r l.invariant
-        (omega (arith, a.book.requests_are, c.loop-r-test.false)) (omega (arith, a.book.requests_are, l.auto.r-end))
+    (omega (arith, a.book.requests_are, c.loop-r-test.false)) (omega (arith, a.book.requests_are, l.auto.r-end))
