@@ -8,6 +8,7 @@ use Rattle.definitions.specs.Decimal.{decimal}
 use Rattle.definitions.specs.Shelf.{line, states_word, book_text}
 use Rattle.booktext.specs.FindingLines.{finding_lines}
 
+-- the states, then the three findings
 four : (s c m k : List ℕ) → s ++ (c ++ m ++ k) ≡ s ++ c ++ m ++ k
 four s c m k = simp append_assoc
 

@@ -1,6 +1,5 @@
 -- `put_findings` puts three lines, one after another, of what is found on the book.
 use Rattle.text.proofs.Puts.{then}
-use Rattle.booktext.specs.FindingLines.{finding_lines}
 use Rattle.booktext.proofs.lines.put_findings.Goals as goal
 
 pub returns-clause-put : goal.returns-clause-put
