@@ -16,8 +16,8 @@ use lib.ListN.{length, replicate}
 use mathlib.Core.List.{List}
 use Prim.Native.Nat.{ℕ, min, ◌*◌, ◌<◌, ◌≤◌}
 use native.Mathlib.Omega.{arith}
-use mathlib.Core.Path.{◌≡◌, sym, ap, subst, ◌∙◌}
-use Rattle.build.proofs.build_in.Goals.{After-explore-n}
+use mathlib.Core.Path.{◌≡◌, refl, sym, ap, subst, ◌∙◌}
+use Rattle.build.proofs.build_in.Goals.{After-explore}
 use Rattle.build.proofs.build_in.Goals as goal
 
 -- ---- the room, by the policy's numbers
@@ -35,79 +35,91 @@ fits_by : (p images : List ℕ) (s : Shape) (set room : ℕ) → s ≡ shape_of 
 fits_by p images s set room is begins are h = rw (is, begins) (situations_fit p images are room (rw is at h))
 
 -- ---- after exploring
-abbrev policy : After-explore-n → List ℕ
+abbrev policy : After-explore → List ℕ
 policy c = c.args.policy.now
 
 -- the images are the policy's, and its situations are reached
-abbrev images : After-explore-n → List ℕ
+abbrev images : After-explore → List ℕ
 images c = c.fill_images.new.images
 
-images-of : (c : After-explore-n) → ImagesOf (policy c) (images c)
+images-of : (c : After-explore) → ImagesOf (policy c) (images c)
 images-of c = c.fill_images.ensures
 
-numbers : (c : After-explore-n) → c.args.shape ≡ shape_of (policy c)
+numbers : (c : After-explore) → c.args.shape ≡ shape_of (policy c)
 numbers c = c.requires.buildable.numbers
 
-start_is : (c : After-explore-n) → c.start-start.result.set ≡ start_situation (policy c)
+start_is : (c : After-explore) → c.start-start.result.set ≡ start_situation (policy c)
 start_is c = c.start-start.ensures ∙ ap (λ (s : Shape). insert s.start empty_set) (numbers c)
 
-reaches : (c : After-explore-n)
-    → Reaches (images_machine (images c) (valuations (policy c)) (width (policy c)) (start_situation (policy c))) (replicate 128 0) c.args.raw.now
-    c.explore-n.result c.explore-n.new.found c.explore-n.new.raw
-reaches c = reaches-by (policy c) (images c) (replicate 128 0) c.args.raw.now c.args.shape _ _ _ _ (numbers c) (start_is c) c.explore-n.ensures
+-- what exploring leaves where n situations are found, and where n is 0
+abbrev Explored : After-explore → ℕ → Type 0
+Explored c n =
+    Reaches (images_machine (images c) c.args.shape.valuations c.args.shape.width c.start-start.result.set) (replicate 128 0) c.args.raw.now n
+    c.explore.new.found c.explore.new.raw
 
-raw-fits : (c : After-explore-n)
+reaches : (c : After-explore) (n : ℕ) → Explored c n
+    → Reaches (images_machine (images c) (valuations (policy c)) (width (policy c)) (start_situation (policy c))) (replicate 128 0) c.args.raw.now n
+    c.explore.new.found c.explore.new.raw
+reaches c n = reaches-by (policy c) (images c) (replicate 128 0) c.args.raw.now c.args.shape _ n _ _ (numbers c) (start_is c)
+
+raw-fits : (c : After-explore)
     → RowsFit (images_machine (images c) (valuations (policy c)) (width (policy c)) (start_situation (policy c))) (length c.args.raw.now)
 raw-fits c =
     situations_fit (policy c) (images c) (images-of c) (length c.args.raw.now)
-    (room (policy c) c.args.shape (length c.args.images.now) (length c.args.raw.now) (numbers c) c.requires.room_for).1
+    (room (policy c) c.args.shape (length c.args.images.now) (length c.args.raw.now) (numbers c) c.requires.room).1
 
-wide : (c : After-explore-n) → c.args.shape.width ≡ width (policy c)
+wide : (c : After-explore) → c.args.shape.width ≡ width (policy c)
 wide c = ap (λ (s : Shape). s.width) (numbers c)
 
-over : (c : After-explore-n) → c.explore-n.result ≡ 0 → 127 < length (situations (policy c))
-over c none = situations-over (policy c) (images c) (images-of c) (raw-fits c) (reaches c) none
+over : (c : After-explore) → Explored c 0 → 127 < length (situations (policy c))
+over c none = situations-over (policy c) (images c) (images-of c) (raw-fits c) (reaches c 0 none) refl
 
-rows : (c : After-explore-n) → (c.explore-n.result ≡ 0 → ⊥) → SituationRows (policy c) c.explore-n.new.raw c.explore-n.result
-rows c some = situation-rows (policy c) (images c) (images-of c) (raw-fits c) (reaches c) some
+rows : (c : After-explore) (n : ℕ) → (0 < n) × Explored c n → SituationRows (policy c) c.explore.new.raw n
+rows c n found = situation-rows (policy c) (images c) (images-of c) (raw-fits c) (reaches c n found.1) (λ e. omega (arith, found.0, e))
 
 pub fill_images-requires : goal.fill_images-requires
 fill_images-requires c =
     let policy = c.args.policy.now in
-    let fits = room policy c.args.shape (length c.args.images.now) (length c.args.raw.now) c.requires.buildable.numbers c.requires.room_for in
+    let fits = room policy c.args.shape (length c.args.images.now) (length c.args.raw.now) c.requires.buildable.numbers c.requires.room in
     (has-passed policy c.requires.buildable.file, c.requires.buildable.numbers, fits.0)
 
 pub start-start-requires : goal.start-start-requires
 start-start-requires c =
     omega (arith, start-low c.args.policy.now c.requires.buildable.file, ap (λ (s : Shape). s.start) c.requires.buildable.numbers)
 
-pub explore-n-requires : goal.explore-n-requires
-explore-n-requires c =
+pub invariant_of-table : goal.invariant_of-table
+invariant_of-table c =
     let policy = c.args.policy.now in
     let is = c.requires.buildable.numbers in
     let file = c.requires.buildable.file in
-    let begins = c.start-start.ensures ∙ ap (λ (s : Shape). insert s.start empty_set) is in
-    let some = subst (λ (set : ℕ). 0 < set) (sym begins) (start-some policy file) in
     let few = ap (λ (s : Shape). s.valuations) is in
     let wide = ap (λ (s : Shape). s.width) is in record {
-      valuations_bound = (omega (arith, valuations-low policy file, few), omega (arith, width_low policy file, wide), omega (arith, c.fill_images.auto.images, c.requires.room_for.0), some);
-      in_bounds = (omega arith, fits_by policy c.fill_images.new.images c.args.shape _ (length c.args.raw.now) is begins c.fill_images.ensures c.requires.room_for.1);
+      within = (omega (arith, valuations-low policy file, few), omega (arith, width_low policy file, wide), omega (arith, c.fill_images.auto.images, c.requires.room.0));
     }
 
-pub returns-then-n-eq0 : goal.returns-then-n-eq0
-returns-then-n-eq0 c =
+pub explore-requires : goal.explore-requires
+explore-requires c =
+    let policy = c.args.policy.now in
+    let is = c.requires.buildable.numbers in
+    let begins = c.start-start.ensures ∙ ap (λ (s : Shape). insert s.start empty_set) is in record {
+      state = subst (λ (set : ℕ). 0 < set) (sym begins) (start-some policy c.requires.buildable.file);
+      room = (omega arith, fits_by policy c.fill_images.new.images c.args.shape _ (length c.args.raw.now) is begins c.fill_images.ensures c.requires.room.1);
+    }
+
+pub returns-in_default : goal.returns-in_default
+returns-in_default c =
     let a = c.args in
     let b = c.requires.buildable in
     let all = build_refused a.policy.now a.book.now 11 (λ e. omega arith)
-    (refused-by-11 a.policy.now a.book.now b.room b.file (over (goal.at.returns-then-n-eq0 c).After-explore-n c.if-n-eq0.true)) in
-    record { result_value = all.0; book_after = all.1 }
+    (refused-by-11 a.policy.now a.book.now b.room b.file (over (goal.at.returns-in_default c).After-explore c.in_default.ensures)) in
+    record { answer = all.0; book = all.1 }
 
 pub write_book-requires : goal.write_book-requires
 write_book-requires c =
     let b = c.requires.buildable in
-    let t = rows (goal.at.write_book-requires c).After-explore-n c.if-n-eq0.false in
-    let low = book-fits c.args.policy.now b.file c.explore-n.result t.few in
-    rw (numbers (goal.at.write_book-requires c).After-explore-n) record {
+    let t = rows (goal.at.write_book-requires c).After-explore c.in-Some.n c.in-Some.ensures in
+    let low = book-fits c.args.policy.now b.file c.in-Some.n t.few in
+    rw (numbers (goal.at.write_book-requires c).After-explore) record {
       table_in = (t.is_table, t.few, t.ordered, omega (arith, b.room));
       in_bounds = header_read c.args.policy.now b.file;
     }
@@ -116,8 +128,8 @@ pub returns : goal.returns
 returns c =
     let a = c.args in
     let r = c.requires.buildable in
-    let t = rows (goal.at.returns c).After-explore-n c.if-n-eq0.false in
+    let t = rows (goal.at.returns c).After-explore c.in-Some.n c.in-Some.ensures in
     let b = c.write_book.ensures in
-    let all = build_given a.policy.now a.book.now c.explore-n.new.raw c.explore-n.result (wide (goal.at.returns c).After-explore-n)
+    let all = build_given a.policy.now a.book.now c.explore.new.raw c.in-Some.n (wide (goal.at.returns c).After-explore)
     (refused-by-none a.policy.now a.book.now r.room r.file t.count) t.rows b.value b.book_after in
-    record { result_value = all.0; book_after = all.1 }
+    record { answer = all.0; book = all.1 }

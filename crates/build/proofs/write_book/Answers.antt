@@ -13,5 +13,5 @@ pub returns : goal.returns
 returns c =
     let a = c.args in
     let rows = minimal a.w (rows_in a.raw.now a.n a.w) in
-    let e = c.fill_frame.ensures in
+    let e = c.frame_of.ensures in
     let b = c.write_joined.ensures in record { value = b.value ∙ ap (λ (frame : List ℕ). length (book_bytes frame rows)) e; book_after = b.book_after ∙ ap (λ (frame : List ℕ). written (book_bytes frame rows) a.book.now) e }
