@@ -6,76 +6,87 @@
 mod line;
 
 use line::case_line;
-use streams::{Input, read_input, report, write_output};
+use std::fmt;
+use streams::{StreamError, read_input, report, write_output};
 use text::{first, two_bytes};
 
-// Writes the line of a policy. Returns whether it was written.
-fn judge(rt: &HostRuntime, policy: &[u8]) -> bool {
+// Why a run ends before its input does.
+#[derive(Clone, Copy, Debug, PartialEq, Eq)]
+enum CaseError {
+    Stream(StreamError),
+    Cut,
+    TooLong,
+}
+
+impl From<StreamError> for CaseError {
+    fn from(error: StreamError) -> CaseError {
+        CaseError::Stream(error)
+    }
+}
+
+impl fmt::Display for CaseError {
+    fn fmt<W: fmt::Write>(&self, f: &mut fmt::Formatter<W>) -> fmt::Result {
+        match self {
+            CaseError::Stream(StreamError::Unread) => write!(
+                f,
+                "cases: standard input could not be read; nothing more was judged"
+            ),
+            CaseError::Stream(StreamError::Unwritten) => write!(
+                f,
+                "cases: standard output could not be written in full"
+            ),
+            CaseError::Cut => write!(
+                f,
+                "cases: standard input ends within a case; it was not judged"
+            ),
+            CaseError::TooLong => write!(
+                f,
+                "cases: a case of more than 1,024 bytes; nothing more was judged"
+            ),
+        }
+    }
+}
+
+// Writes the line of a policy.
+fn judge(rt: &HostRuntime, policy: &[u8]) -> Result<(), StreamError> {
     let mut text = [0u8; 34569];
     let length = case_line(policy, &mut text);
-    write_output(
-        rt,
-        first(&text, length),
-        b"cases: standard output could not be written in full\n",
-    )
+    write_output(rt, first(&text, length))
 }
 
-// Whether there is a case at all.
-fn begins(read: Input) -> bool {
-    match read {
-        Input::Length(length) => length != 0,
-        Input::Failed => true,
+// Reads a policy that fills the buffer and writes its line.
+fn take_policy(rt: &HostRuntime, policy: &mut [u8]) -> Result<(), CaseError> {
+    if read_input(rt, policy)? < policy.len() {
+        return Err(CaseError::Cut);
     }
+    judge(rt, policy)?;
+    Ok(())
 }
 
-// Whether as many bytes were read as a part of a case has.
-fn is_whole(rt: &HostRuntime, read: Input, size: usize) -> bool {
-    match read {
-        Input::Length(length) => {
-            length == size
-                || report(
-                    rt,
-                    b"cases: standard input ends within a case; it was not judged\n",
-                )
-        }
-        Input::Failed => {
-            report(
-                rt,
-                b"cases: standard input could not be read; nothing more was judged\n",
-            )
-        }
+// Reads one case, a length and a policy, and writes its line. Returns whether there was one.
+fn take_case(rt: &HostRuntime) -> Result<bool, CaseError> {
+    let mut head = [0u8; 2];
+    match read_input(rt, &mut head)? {
+        0 => return Ok(false),
+        1 => return Err(CaseError::Cut),
+        _ => {}
     }
-}
-
-// Reads a policy that fills the buffer and writes its line. Returns whether to go on.
-fn take_policy(rt: &HostRuntime, policy: &mut [u8]) -> bool {
-    let read = read_input(rt, policy);
-    is_whole(rt, read, policy.len()) && judge(rt, policy)
-}
-
-// The same for a policy of n bytes.
-fn take_bytes(rt: &HostRuntime, n: usize) -> bool {
+    let n = two_bytes(&head);
     if 1024 < n {
-        return report(
-            rt,
-            b"cases: a case of more than 1,024 bytes; nothing more was judged\n",
-        );
+        return Err(CaseError::TooLong);
     }
     let mut policy = [0u8; 1024];
-    take_policy(rt, &mut policy[..n])
+    take_policy(rt, &mut policy[..n])?;
+    Ok(true)
 }
 
-// Reads one case, a length and a policy, and writes its line. Returns whether to go on.
-fn take_case(rt: &HostRuntime) -> bool {
-    let mut head = [0u8; 2];
-    let read = read_input(rt, &mut head);
-    begins(read) && is_whole(rt, read, 2) && take_bytes(rt, two_bytes(&head))
-}
-
-// A proved loop has to end, and nothing says that the input does: so the turns are counted down from a number that no input uses up.
+// A proved loop has to end, and nothing says that the input does: so the turns are counted, up to a number that no input uses up.
 fn main(rt: HostRuntime) {
-    let mut turns = u64::MAX;
-    while turns > 0 && take_case(&rt) {
-        turns -= 1;
+    for _ in 0..u64::MAX {
+        match take_case(&rt) {
+            Ok(true) => {}
+            Ok(false) => return,
+            Err(error) => return report(&rt, error),
+        }
     }
 }

@@ -7,28 +7,21 @@ mod input;
 mod lines;
 mod steps;
 
-use streams::{Input, read_input, report, write_output};
-use text::first;
-
-fn write_play(rt: &HostRuntime, input: &[u8]) {
-    let mut text = [0u8; 131072];
-    let length = input::play(input, &mut text);
-    write_output(
-        rt,
-        first(&text, length),
-        b"play: standard output could not be written in full\n",
-    );
-}
+use input::play;
+use streams::{StreamError, answer_input, report};
 
 fn main(rt: HostRuntime) {
     let mut input = [0u8; 17541];
-    let read = read_input(&rt, &mut input);
-    let Input::Length(length) = read else {
-        report(
+    let mut text = [0u8; 131072];
+    match answer_input(&rt, &mut input, &mut text, play) {
+        Ok(()) => {}
+        Err(StreamError::Unread) => report(
             &rt,
-            b"play: standard input could not be read; nothing was played\n",
-        );
-        return;
-    };
-    write_play(&rt, first(&input, length));
+            "play: standard input could not be read; nothing was played",
+        ),
+        Err(StreamError::Unwritten) => report(
+            &rt,
+            "play: standard output could not be written in full",
+        ),
+    }
 }

@@ -8,7 +8,7 @@ ghost use Rattle.text.specs.Room.{length_within, written_within};
 
 use booktext::Form;
 use policytext::policy_text;
-use streams::{Input, read_input, report, write_output};
+use streams::{StreamError, answer_input, report};
 use text::first;
 
 // The text for an input, at the front of the buffer, and the text's length. The bytes after the text are unchanged. Where the buffer is under 2,048 bytes the
@@ -21,25 +21,18 @@ pub fn shelf(input: &[u8], out: &mut [u8]) -> usize
     policy_text(first(input, 1024), Form::Findings, out)
 }
 
-fn write_shelf(rt: &HostRuntime, input: &[u8]) {
-    let mut text = [0u8; 2048];
-    let length = shelf(input, &mut text);
-    write_output(
-        rt,
-        first(&text, length),
-        b"shelf: standard output could not be written in full\n",
-    );
-}
-
 fn main(rt: HostRuntime) {
     let mut input = [0u8; 1024];
-    let read = read_input(&rt, &mut input);
-    let Input::Length(length) = read else {
-        report(
+    let mut text = [0u8; 2048];
+    match answer_input(&rt, &mut input, &mut text, shelf) {
+        Ok(()) => {}
+        Err(StreamError::Unread) => report(
             &rt,
-            b"shelf: standard input could not be read; nothing was judged\n",
-        );
-        return;
-    };
-    write_shelf(&rt, first(&input, length));
+            "shelf: standard input could not be read; nothing was judged",
+        ),
+        Err(StreamError::Unwritten) => report(
+            &rt,
+            "shelf: standard output could not be written in full",
+        ),
+    }
 }
