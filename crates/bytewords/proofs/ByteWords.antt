@@ -7,9 +7,10 @@ use Prim.Native.Nat.{ℕ, zero, suc, ◌+◌, ◌-◌, ◌*◌, ◌≤◌, ◌<�
 use native.Mathlib.Nat.{add-zero, add_assoc}
 use native.Mathlib.Omega.{arith}
 use native.Mathlib.Decide.{dec_lt}
-use lib.Bits.{bit_or, bit_xor, and_le_l, and_le_r, or_add_and, xor_add_and, xor_self}
+use lib.Bits.{bit_or, bit_xor, and_le_l, and_le_r, xor_add_and, xor_self}
 use lib.Dec.{lit<}
 use lib.ListN.{get_or}
+use Rattle.std.proofs.lemmas.Nat.{le_or_l, le_or_r}
 use Rattle.bytewords.specs.ByteWords.{half_at, word_at, HalfBytes, WordBytes, SamePart}
 
 -- ---- parts of two strings
@@ -67,6 +68,10 @@ module _ (xs ys : List ℕ) (j k : ℕ) (X : WordBytes xs j) (Y : WordBytes ys k
         ap₂ (λ (a b : ℕ). a + 0x100000000 * b) (same_half xs ys j k part.0) (same_half xs ys (j + 4) (k + 4) part.1),
   )
 
+-- the same of two words that were read
+pub words_read : (xs ys : List ℕ) (j k : ℕ) {x y : ℕ} → (x ≡ word_at xs j) × WordBytes xs j → (y ≡ word_at ys k) × WordBytes ys k → (x ≡ y) ↔ SamePart 8 xs j ys k
+words_read xs ys j k X Y = rw (X.0, Y.0) (words-equal xs ys j k X.1 Y.1)
+
 -- a word of 0 has the bytes of a word that stands in no string
 pub word_zeros : (l : List ℕ) (k : ℕ) → WordBytes l k → word_at l k ≡ 0 → (j : ℕ) → k ≤ j → j < k + 8 → get_or l j 0 ≡ 0
 word_zeros l k B e j low high =
@@ -77,7 +82,7 @@ word_zeros l k B e j low high =
 -- ---- differences gathered by bits
 or_zero : (a b : ℕ) → (bit_or a b ≡ 0) ↔ ((a ≡ 0) × (b ≡ 0))
 or_zero a b = (
-  (λ e. let sum = or_add_and a b in let l = and_le_l a b in let r = and_le_r a b in (omega arith, omega arith)),
+  (λ e. (omega (arith, le_or_l a b), omega (arith, le_or_r a b))),
   λ z. rw (z.0, z.1),
 )
 

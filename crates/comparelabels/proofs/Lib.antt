@@ -1,4 +1,3 @@
 -- Laws that belong to no one function.
 pub mod LabelBytes
 pub mod FirstFailing
-pub mod RowLabels

@@ -4,17 +4,13 @@ ghost use Rattle.std.specs.Prelude.{◌≡◌, map, ◌+◌, ◌≤◌, ◌<◌,
 ghost use Rattle.automaton.specs.Below.{list_below};
 ghost use Rattle.comparelabels.specs.LabelBytes.{itself, label_at, begun_labels, moved as moved_to, merged, OwnFrom};
 
-use automaton::wide;
-
 // Gives each number its own label.
 fn own_labels(label: &mut [u8])
     requires { length label.old ≤ 256 }
     ensures { label.new ≡ list_below (length label.old) itself }
 {
-    let mut u = 0;
-    while u < label.len() {
+    for u in 0..label.len() {
         label[u] = u as u8;
-        u += 1;
     }
 }
 
@@ -35,10 +31,10 @@ pub fn merge(label: &mut [u8], x: usize, y: usize)
     requires x_in_bounds { (x < length label.old) × (0 < y) × (label_at label.old 0 + y < length label.old) }
     ensures { label.new ≡ merged label.old x (label_at label.old 0 + y) }
 {
-    let base = wide(label[0]);
+    let base = usize::from(label[0]);
     let to = label[x];
     let from = label[base + y];
-    if base <= wide(from) {
+    if base <= usize::from(from) {
         label[base + y] = to;
         return;
     }
@@ -49,10 +45,8 @@ pub fn merge(label: &mut [u8], x: usize, y: usize)
 fn relabel(label: &mut [u8], from: u8, to: u8)
     ensures { label.new ≡ map (moved_to from to) label.old }
 {
-    let mut u = 0;
-    while u < label.len() {
-        label[u] = moved(from, to, label[u]);
-        u += 1;
+    for l in label.iter_mut() {
+        *l = moved(from, to, *l);
     }
 }
 

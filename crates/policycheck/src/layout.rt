@@ -1,6 +1,6 @@
 // Rows 3 to 6: the mark, the version, the ranges of the first numbers, and the length.
 ghost use Rattle.std.specs.Prelude.{◌≡◌, ◌≤◌, eqb, length};
-ghost use Rattle.definitions.specs.Bytes.{has_mark, within};
+ghost use Rattle.definitions.specs.Bytes.{has_mark};
 ghost use Rattle.definitions.specs.Policy.{exact_length};
 ghost use Rattle.definitions.specs.Refusal.{version_holds, ranges_hold};
 
@@ -10,7 +10,7 @@ pub fn mark_holds(policy: &[u8]) -> bool
     requires { 9 ≤ length policy.now }
     ensures { result ≡ has_mark 0x50 0x4F 0x4C policy.now }
 {
-    (policy[0] == 0x50) & (policy[1] == 0x4F) & (policy[2] == 0x4C)
+    policy.starts_with(b"POL")
 }
 
 pub fn version_holds(policy: &[u8]) -> bool
@@ -18,23 +18,17 @@ pub fn version_holds(policy: &[u8]) -> bool
     ensures { result ≡ version_holds policy.now }
 {
     let version = header::two_bytes(policy, 3);
-    (version == 1) | (version == 2)
-}
-
-pub fn in_range(low: usize, x: usize, high: usize) -> bool
-    ensures { result ≡ within low x high }
-{
-    (low <= x) & (x <= high)
+    version == 1 || version == 2
 }
 
 pub fn ranges_hold(policy: &[u8]) -> bool
     requires { 9 ≤ length policy.now }
     ensures { result ≡ ranges_hold policy.now }
 {
-    (header::events(policy) <= 8)
-        & in_range(1, header::fields(policy), 4)
-        & (header::variables(policy) <= 4)
-        & (header::rules(policy) <= 32)
+    header::events(policy) <= 8
+        && (1..=4).contains(&header::fields(policy))
+        && header::variables(policy) <= 4
+        && header::rules(policy) <= 32
 }
 
 pub fn length_holds(policy: &[u8]) -> bool

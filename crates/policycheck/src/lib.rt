@@ -11,53 +11,56 @@ ghost use Rattle.std.specs.Prelude.{◌≡◌};
 ghost use Rattle.definitions.specs.Answer.{refusal_by};
 ghost use Rattle.definitions.specs.Refusal.{content_checks, file_refusal, valuations_hold};
 ghost use Rattle.policy.specs.Sized.{Sized, TableOf};
+ghost use Rattle.refusal.specs.Refused.{refusal_in};
 
 use policy::{part, valuation};
+use refusal::Refusal;
 
-// The number of the first row of 2 to 7, 17 and 8 to 10 that refuses the file; 0 if none does.
-pub fn file_refusal(policy: &[u8]) -> usize
-    ensures { result ≡ file_refusal policy.now }
+// The error is the first row of 2 to 7, 17 and 8 to 10 that refuses the file.
+#[tactic(auto, unfolding(definitions::specs::Refusal::file_refusal))]
+pub fn check(policy: &[u8]) -> Result<(), Refusal>
+    ensures { refusal_in result ≡ file_refusal policy.now }
 {
     if policy.len() < 9 {
-        return 2;
+        return Err(Refusal::ShortPolicy);
     }
     if !layout::mark_holds(policy) {
-        return 3;
+        return Err(Refusal::PolicyMark);
     }
     if !layout::version_holds(policy) {
-        return 4;
+        return Err(Refusal::PolicyVersion);
     }
     if !layout::ranges_hold(policy) {
-        return 5;
+        return Err(Refusal::PolicyRange);
     }
     if !layout::length_holds(policy) {
-        return 6;
+        return Err(Refusal::PolicyLength);
     }
-    contents_refusal(policy)
+    check_contents(policy)
 }
 
 // Rows 7, 17 and 8 to 10, of a file whose length is right.
-fn contents_refusal(policy: &[u8]) -> usize
+fn check_contents(policy: &[u8]) -> Result<(), Refusal>
     requires { Sized policy.now }
-    ensures { result ≡ refusal_by content_checks policy.now }
+    ensures { refusal_in result ≡ refusal_by content_checks policy.now }
 {
     if !counts::counts_hold(policy) {
-        return 7;
+        return Err(Refusal::ValueCount);
     }
     if !starts::starts_hold(policy) {
-        return 17;
+        return Err(Refusal::Start);
     }
     let table = part::rule_table(policy);
     if !masks::masks_hold(policy, table) {
-        return 8;
+        return Err(Refusal::Mask);
     }
     if !values::values_hold(policy, table) {
-        return 9;
+        return Err(Refusal::RuleValue);
     }
     if !valuations_hold(policy, table) {
-        return 10;
+        return Err(Refusal::Valuations);
     }
-    0
+    Ok(())
 }
 
 // Row 10.

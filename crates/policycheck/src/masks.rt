@@ -11,33 +11,19 @@ fn mask_holds(policy: &[u8], rule: &[u8], f: usize) -> bool
     ensures { result ≡ mask_holds policy.now rule.now f }
 {
     let mask = record::mask(rule, f);
-    (1 <= mask) & (mask < 1usize << header::count(policy, f))
+    1 <= mask && mask < 1 << header::count(policy, f)
 }
 
 fn rule_masks_hold(policy: &[u8], rule: &[u8]) -> bool
     requires { RuleOf policy.now rule.now × (counts_hold policy.now ≡ true) }
     ensures { result ≡ rule_masks_hold policy.now rule.now }
 {
-    let n = header::fields(policy);
-    let mut pass = true;
-    let mut f = 0;
-    while f < n {
-        pass = pass & mask_holds(policy, rule, f);
-        f += 1;
-    }
-    pass
+    (0..header::fields(policy)).all(|f| mask_holds(policy, rule, f))
 }
 
 pub fn masks_hold(policy: &[u8], table: &[u8]) -> bool
     requires { TableOf policy.now table.now × (counts_hold policy.now ≡ true) }
     ensures { result ≡ masks_hold policy.now }
 {
-    let n = header::rules(policy);
-    let mut pass = true;
-    let mut k = 0;
-    while k < n {
-        pass = pass & rule_masks_hold(policy, part::rule(policy, table, k));
-        k += 1;
-    }
-    pass
+    (0..header::rules(policy)).all(|k| rule_masks_hold(policy, part::rule(policy, table, k)))
 }

@@ -9,12 +9,5 @@ pub fn starts_hold(policy: &[u8]) -> bool
     requires { Sized policy.now }
     ensures { result ≡ starts_hold policy.now }
 {
-    let n = header::starts(policy);
-    let mut pass = true;
-    let mut j = 0;
-    while j < n {
-        pass = pass & (header::start(policy, j) <= 63);
-        j += 1;
-    }
-    pass
+    (0..header::starts(policy)).all(|j| header::start(policy, j) <= 63)
 }

@@ -11,55 +11,36 @@ fn test_holds(policy: &[u8], rule: &[u8], j: usize) -> bool
     requires { RuleOf policy.now rule.now × (j < variables policy.now) }
     ensures { result ≡ test_holds policy.now rule.now j }
 {
-    (record::ge(policy, rule, j) <= 63)
-        & (record::lt(policy, rule, j) <= 63)
-        & (record::change(policy, rule, j) <= 2)
+    record::ge(policy, rule, j) <= 63
+        && record::lt(policy, rule, j) <= 63
+        && record::change(policy, rule, j) <= 2
 }
 
 fn rule_holds(policy: &[u8], rule: &[u8]) -> bool
     requires { RuleOf policy.now rule.now }
     ensures { result ≡ rule_holds policy.now rule.now }
 {
-    let n = header::variables(policy);
-    let mut pass = true;
-    let mut j = 0;
-    while j < n {
-        pass = pass & test_holds(policy, rule, j);
-        j += 1;
-    }
-    (record::decision(policy, rule) <= 1) & pass
+    record::decision(policy, rule) <= 1
+        && (0..header::variables(policy)).all(|j| test_holds(policy, rule, j))
 }
 
 fn rules_hold(policy: &[u8], table: &[u8]) -> bool
     requires { TableOf policy.now table.now }
     ensures { result ≡ all_rules policy.now (rule_holds policy.now) }
 {
-    let n = header::rules(policy);
-    let mut pass = true;
-    let mut k = 0;
-    while k < n {
-        pass = pass & rule_holds(policy, part::rule(policy, table, k));
-        k += 1;
-    }
-    pass
+    (0..header::rules(policy)).all(|k| rule_holds(policy, part::rule(policy, table, k)))
 }
 
 fn events_hold(policy: &[u8], changes: &[u8]) -> bool
     requires { ChangesOf policy.now changes.now }
     ensures { result ≡ all_below (events policy.now) (event_holds policy.now) }
 {
-    let mut pass = true;
-    let mut i = 0;
-    while i < changes.len() {
-        pass = pass & (changes[i] <= 2);
-        i += 1;
-    }
-    pass
+    changes.iter().all(|change| *change <= 2)
 }
 
 pub fn values_hold(policy: &[u8], table: &[u8]) -> bool
     requires { TableOf policy.now table.now }
     ensures { result ≡ values_hold policy.now }
 {
-    rules_hold(policy, table) & events_hold(policy, part::changes(policy, table))
+    rules_hold(policy, table) && events_hold(policy, part::changes(policy, table))
 }

@@ -18,10 +18,8 @@ fn word_differences(first: &[u8], second: &[u8], k: usize) -> usize
     ensures { (result ≡ 0) ↔ SamePart 64 first.now k second.now k }
 {
     let mut gathered = 0;
-    let mut n = 0;
-    while n < 64 {
-        gathered |= word(first, k + n) ^ word(second, k + n);
-        n += 8;
+    for n in 0..8 {
+        gathered |= word(first, k + 8 * n) ^ word(second, k + 8 * n);
     }
     gathered
 }
@@ -32,10 +30,8 @@ fn byte_differences(first: &[u8], second: &[u8], k: usize) -> u8
     ensures { (result ≡ 0) ↔ SamePart 4 first.now k second.now k }
 {
     let mut gathered = 0;
-    let mut n = 0;
-    while n < 4 {
+    for n in 0..4 {
         gathered |= first[k + n] ^ second[k + n];
-        n += 1;
     }
     gathered
 }
@@ -45,12 +41,10 @@ fn same_single_bytes(first: &[u8], second: &[u8], from: usize) -> bool
     requires { SameSoFar first.now second.now from }
     ensures { result ≡ same_bytes first.now second.now }
 {
-    let mut k = from;
-    while k < first.len() {
+    for k in from..first.len() {
         if first[k] != second[k] {
             return false;
         }
-        k += 1;
     }
     true
 }
@@ -74,6 +68,7 @@ fn same_words(first: &[u8], second: &[u8], from: usize) -> bool
     requires { SameSoFar first.now second.now from }
     ensures { result ≡ same_bytes first.now second.now }
 {
+    // Counted by hand: a `for` over the words, the turns or both took up to a fifth longer.
     let mut k = from;
     while k + 8 <= first.len() {
         if word(first, k) != word(second, k) {
@@ -97,6 +92,7 @@ pub fn same_bytes(first: &[u8], second: &[u8]) -> bool
     if first.len() < 8 {
         return same_tail(first, second, 0);
     }
+    // Counted by hand, as in `same_words`.
     let mut k = 0;
     while k + 64 <= first.len() {
         if word_differences(first, second, k) != 0 {

@@ -1,15 +1,12 @@
--- `events_hold` meets its contract. The loop's invariant: `pass` says whether every change before place i passes.
-use mathlib.Core.Path.{refl}
-use native.Mathlib.Omega.{arith}
-use Rattle.automaton.proofs.Loops.{all-next}
+-- `events_hold` meets its contract.
+use Rattle.std.proofs.Common.{◌∙◌, rules, tests}
+use Rattle.std.proofs.lemmas.Iterator.{YieldsList-from_slice}
+use Rattle.std.proofs.lemmas.Iterator.Search.{all_from_yields_List}
 use Rattle.policycheck.proofs.EventChanges.{change_holds, events_hold}
 use Rattle.policycheck.proofs.values.events_hold.Goals as goal
 
-pub loop-i-preserved : goal.loop-i-preserved
-loop-i-preserved c =
-    let loop = c.loop-i in
-    (omega arith, all-next (change_holds c.args.changes.now) loop.i loop.pass _ loop.invariant.1 refl)
-
 pub returns : goal.returns
 returns c =
-    events_hold c.args.policy.now c.args.changes.now c.requires c.loop-i.i c.loop-i.pass (omega arith) c.loop-i.invariant.1
+    let changes = c.args.changes.now in
+    all_from_yields_List change_holds _ _ _ c.all.ensures.ran (YieldsList-from_slice changes cc) (λ x b q k. search (rules, tests))
+    ∙ events_hold c.args.policy.now changes c.requires

@@ -1,18 +1,14 @@
--- `rule_holds` meets its contract. The loop's invariant: `pass` says whether every variable before j passes.
-use mathlib.Core.Path.{◌≡◌}
-use native.Mathlib.Omega.{arith}
-use Rattle.automaton.proofs.Loops.{all-next}
-use Rattle.definitions.specs.Policy.{variables}
+-- `rule_holds` meets its contract.
+use Rattle.std.proofs.Common.{rules, tests, arith}
+use borrow.Author.Tests.{le-leb}
+use Rattle.definitions.specs.Policy.{variables, decision}
 use Rattle.definitions.specs.Refusal.{test_holds}
+use Rattle.policycheck.proofs.AllBelow.{all_below-range}
 use Rattle.policycheck.proofs.values.rule_holds.Goals as goal
 
-pub loop-j-preserved : goal.loop-j-preserved
-loop-j-preserved c =
-    let loop = c.loop-j in
-    (omega arith, all-next (test_holds c.args.policy.now c.args.rule.now) loop.j loop.pass c.test_holds-pass.result loop.invariant.1 c.test_holds-pass.ensures)
-
-pub returns : goal.returns
-returns c =
-    let loop = c.loop-j in
-    let e : loop.j ≡ variables c.args.policy.now = omega arith in
-    rw (c.decision.ensures.0, ← e, ← loop.invariant.1)
+pub returns-then-decision-le1 : goal.returns-then-decision-le1
+returns-then-decision-le1 c =
+    let p = c.args.policy.now in
+    let q = c.args.rule.now in
+    rw (le-leb (decision p q) 1 (omega arith))
+    (all_below-range (test_holds p q) (variables p) c.all.ensures.ran c.variables.ensures.0 (λ x b q k. search (rules, tests)))
