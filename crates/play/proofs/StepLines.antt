@@ -19,10 +19,9 @@ use Rattle.text.proofs.Puts.{then, nothing_put}
 use Rattle.refusal.specs.declared.Refusal.{Refusal}
 use Rattle.refusal.specs.Refused.{number_of, refusal_in}
 use Rattle.refusal.proofs.Refused.{some_number}
-use Rattle.walk.specs.Walk.{open_state}
 use Rattle.walk.proofs.StepLists.{step-within}
 use Rattle.walk.proofs.CallCases.{stays}
-use Rattle.play.specs.StateLines.{Stands, state_line, answer_line, result_line}
+use Rattle.play.specs.StateLines.{Stands, answer_line, result_line}
 use Rattle.play.specs.Play.{step_lines, play_lines}
 use Rattle.play.proofs.StateLines.{never_0, line_of}
 

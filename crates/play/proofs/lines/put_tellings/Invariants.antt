@@ -1,4 +1,3 @@
-use mathlib.Core.Path.{◌≡◌}
 use Prim.Native.Nat.{◌+◌, ◌*◌, ◌≤◌}
 use Rattle.text.specs.Put.{Put}
 use Rattle.play.specs.StateLines.{tellings_text}
