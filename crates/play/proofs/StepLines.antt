@@ -5,7 +5,7 @@ use Prim.Native.Nat.{ℕ, ◌+◌, ◌*◌, ◌≤◌, ◌<◌}
 use native.Mathlib.Numerals.{add-one}
 use native.Mathlib.Omega.{arith}
 use lib.ListN.{length, get_or, take}
-use lib.Seq.{take-suc, take-length}
+use lib.Seq.{take-suc}
 use borrow.Author.Tests.{ne_eqb}
 use Rattle.std.specs.Prelude.{Result, Ok, Err, IfOk}
 use Rattle.std.specs.Result.{result_unwrap_or}
@@ -15,7 +15,7 @@ use Rattle.definitions.specs.Opened.{open_refusal, step_refusal, step_state, wal
 use Rattle.definitions.proofs.Accepted.{book-passed}
 use Rattle.definitions.proofs.Tests.{within-true}
 use Rattle.text.specs.Put.{Put}
-use Rattle.text.proofs.Puts.{then, nothing_put}
+use Rattle.text.proofs.Puts.{then}
 use Rattle.refusal.specs.declared.Refusal.{Refusal}
 use Rattle.refusal.specs.Refused.{number_of, refusal_in}
 use Rattle.refusal.proofs.Refused.{some_number}
@@ -59,34 +59,26 @@ pub record StepsPut (b : List ℕ) (start : ℕ) (cs before : List ℕ) (at i st
   pub put : Put before at (step_lines b start (take i cs)) out next
   pub short : next ≤ at + 512 * i
 
-module _ (b : List ℕ) (start : ℕ) (cs before : List ℕ) (at : ℕ) where
-  pub begun : Stands b start → StepsPut b start cs before at 0 start at before
-  begun h = record { led = refl; stands = h; put = nothing_put before at; short = omega arith }
+module _ (b : List ℕ) (start : ℕ) (cs before : List ℕ) (at : ℕ) {i state next : ℕ} {out : List ℕ} (t : StepsPut b start cs before at i state next out) where
+  -- a step: its code, and what it answers
+  pub more : (code : ℕ) (r : Result ℕ Refusal) {after : List ℕ} {end : ℕ} → i < length cs → code ≡ get_or cs i 0 → refusal_in r ≡ step_refusal b state code → IfOk r (λ there. there ≡ step_state b state code)
+      → Put out next (result_line b r) after end → end ≤ next + 512 → StepsPut b start cs before at (i + 1) (result_unwrap_or r state) end after
+  more code r {after} {end} l ec e is p m =
+      record {
+        led = rw one_more led;
+        stands = rw here (step-stands b state code t.stands);
+        put = rw (one_more, lines-last b start (take i cs) code, ← t.led, ← led, here) (then t.put (rw (line_of b r (step_refusal b state code) (step_state b state code) e is) at p));
+        short = omega (arith, t.short);
+      }
+    where
+      here : result_unwrap_or r state ≡ step_state b state code
+      here = reached b state code r e is
 
-  module _ {i state next : ℕ} {out : List ℕ} (t : StepsPut b start cs before at i state next out) where
-    -- a step: its code, and what it answers
-    pub more : (code : ℕ) (r : Result ℕ Refusal) {after : List ℕ} {end : ℕ} → i < length cs → code ≡ get_or cs i 0 → refusal_in r ≡ step_refusal b state code → IfOk r (λ there. there ≡ step_state b state code)
-        → Put out next (result_line b r) after end → end ≤ next + 512 → StepsPut b start cs before at (i + 1) (result_unwrap_or r state) end after
-    more code r {after} {end} l ec e is p m =
-        record {
-          led = rw one_more led;
-          stands = rw here (step-stands b state code t.stands);
-          put = rw (one_more, lines-last b start (take i cs) code, ← t.led, ← led, here) (then t.put (rw (line_of b r (step_refusal b state code) (step_state b state code) e is) at p));
-          short = omega (arith, t.short);
-        }
-      where
-        here : result_unwrap_or r state ≡ step_state b state code
-        here = reached b state code r e is
+      one_more : take (i + 1) cs ≡ take i cs ++ (code ∷ [])
+      one_more = rw (add-one i, ec) (take-suc cs i 0 l)
 
-        one_more : take (i + 1) cs ≡ take i cs ++ (code ∷ [])
-        one_more = rw (add-one i, ec) (take-suc cs i 0 l)
-
-        led : result_unwrap_or r state ≡ walk_state b start (take i cs ++ (code ∷ []))
-        led = here ∙ rw t.led (sym (walk_last b start (take i cs) code))
-
-    pub done : i ≡ length cs → Put before at (step_lines b start cs) out next × (next ≤ at + 512 * length cs)
-    done e =
-        let all : take i cs ≡ cs = rw e (take-length cs) in (rw all at t.put, omega (arith, t.short))
+      led : result_unwrap_or r state ≡ walk_state b start (take i cs ++ (code ∷ []))
+      led = here ∙ rw t.led (sym (walk_last b start (take i cs) code))
 
 -- ---- the opening, and the steps after it
 module _ (b : List ℕ) where
