@@ -27,7 +27,7 @@ fn find_in<const N: usize, const M: usize>(book: Book, depths: &mut [u8])
     ensures { DepthsOf book.entry.bytes.now depths.new }
 {
     let mut search = Search::<N, M>::new();
-    search.explore_book(book.bytes, book.width);
+    search.explore_book(book);
     note_depths(&search, depths);
 }
 
