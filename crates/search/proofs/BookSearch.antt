@@ -2,19 +2,16 @@
 use mathlib.Core.Path.{◌≡◌, sym, ap}
 use mathlib.Core.Bool.{Bool}
 use mathlib.Core.List.{List}
-use Prim.Native.Nat.{ℕ, suc, ◌+◌, ◌*◌, ◌≤◌, ◌<◌}
+use Prim.Native.Nat.{ℕ, ◌≤◌, ◌<◌}
 use native.Mathlib.Nat.{le_trans}
-use native.Mathlib.Omega.{arith}
-use lib.ListN.{length}
 use Rattle.automaton.specs.Explore.{first_that}
 use Rattle.automaton.specs.Machine.{after}
-use Rattle.automaton.specs.Parents.{EarlierParents}
 use Rattle.definitions.specs.Bytes.{byte}
 use Rattle.definitions.specs.Book.{states, book_machine}
 use Rattle.definitions.specs.Checked.{BookPassed}
 use Rattle.definitions.specs.Verdict.{states_reached}
 use Rattle.definitions.proofs.BookSteps.{has-states}
-use Rattle.search.specs.Trail.{first_at, history_at}
+use Rattle.search.specs.Trail.{history_at}
 use Rattle.search.specs.Found.{found_in, Holds, StatesIn, book_states}
 use Rattle.search.proofs.Found.{holds-length, holds-inside, holds-leads, holds-once, holds-some, reached-most}
 
@@ -48,10 +45,3 @@ module _ (b : List ℕ) {n : ℕ} {order trail : List ℕ} (H : Holds (book_stat
     pub book-leads : (k : ℕ) → k < n → after (book_machine b) 1 (history_at trail k) ≡ byte order k
     unfolding book_states
     book-leads = holds-leads (book_machine b) (states b) (has-states b p) H
-
-    -- what `write_history` asks for at place k
-    pub book-trail : (k : ℕ) → k < n → 2 * states b ≤ length trail → (m : ℕ) → 128 ≤ m → (2 * k + 1 < length trail) × (EarlierParents (suc k) (first_at trail) × (k ≤ m))
-    book-trail k l room m long =
-        let most = book-most in
-        let few = book-few in
-        (omega arith, (λ j h. H.falls j (omega arith), omega arith))

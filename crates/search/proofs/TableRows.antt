@@ -1,5 +1,5 @@
 -- The machine of a table given as the bytes of its rows: its steps are entries. The rows of a book that passes are such a table, with the book's machine.
-use mathlib.Core.Path.{◌≡◌, refl, sym, ap, ◌∙◌, subst}
+use mathlib.Core.Path.{◌≡◌, refl, sym, ap, ◌∙◌}
 use mathlib.Core.List.{List}
 use Prim.Native.Nat.{ℕ, zero, suc, ◌+◌, ◌-◌, ◌*◌, ◌/◌, ◌≤◌, ◌<◌}
 use native.Mathlib.Nat.{mul-div_cancel}
@@ -8,7 +8,6 @@ use native.Mathlib.Omega.{arith}
 use lib.ListN.{length, take, drop, length-drop}
 use lib.Seq.{get_or-drop}
 use Rattle.automaton.specs.Machine.{step}
-use Rattle.automaton.specs.Explore.{Reached}
 use Rattle.automaton.proofs.Loops.{part_is-drop}
 use Rattle.automaton.proofs.Machine.{step_past}
 use Rattle.automaton.proofs.WellFormed.{IsTable, step-entry, step-inside, entry-beyond}
@@ -22,7 +21,7 @@ use Rattle.definitions.proofs.BookSteps.{step-is-entry, entry_past}
 use Rattle.definitions.specs.Rows.{rows_in, TableIn}
 use Rattle.definitions.proofs.TableBytes.{rows-count, entry-is, bytes-are-table}
 use Rattle.book.proofs.Places.{Column, column_of, entry_at}
-use Rattle.search.specs.Found.{SmallTable, rows_machine, states_of, book_states, Arrays}
+use Rattle.search.specs.Found.{SmallTable, rows_machine, states_of, book_states}
 use Rattle.search.proofs.Found.{reached-inside, reached-most}
 
 module _ (rows : List ℕ) (w : ℕ) (small : SmallTable rows w) where
@@ -111,8 +110,5 @@ module _ (b : List ℕ) (p : BookPassed b) where
     pub part_count : length (take (length b - 12) (drop 12 b)) / v ≡ states b
     part_count = rw (part_is-drop 12 b, e) book-count
 
-    pub part-states : {n : ℕ} {order trail numbers : List ℕ} → Arrays (states_of (take (length b - 12) (drop 12 b)) v) n order trail numbers
-        → Arrays (book_states b) n order trail numbers
-    part-states {n} {order} {trail} {numbers} S =
-        let same : states_of (take (length b - 12) (drop 12 b)) v ≡ book_states b = rw (part_is-drop 12 b, e) book_states_law in
-        subst (λ (L : List Reached). Arrays L n order trail numbers) same S
+    pub part_states_law : states_of (take (length b - 12) (drop 12 b)) v ≡ book_states b
+    part_states_law = rw (part_is-drop 12 b, e) book_states_law

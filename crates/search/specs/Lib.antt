@@ -1,2 +1,3 @@
 pub mod Trail
 pub mod Found
+pub mod Searched

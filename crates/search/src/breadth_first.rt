@@ -1,110 +1,152 @@
-// Breadth-first search over the rows of a table. The states found stand one after another in `order`, and the histories that found them in `trail`.
+// Breadth-first search over the rows of a table. A search that ends early is made of `new` and `note`, with a test of its own.
+ghost use Rattle.std.specs.Prelude.{◌≡◌, ℕ, [], ◌∷◌, ◌++◌, ◌*◌, ◌/◌, ◌≤◌, ◌<◌, length, take};
+ghost use Rattle.automaton.specs.Parents.{EarlierParents};
+ghost use Rattle.search.specs.Trail.{first_at};
+ghost use Rattle.search.specs.Found.{Numbered};
+
+use crate::trail;
+
+// The states found stand one after another in `order`, and the histories that found them in `trail`, which has two bytes a place, so that M is twice N: a parameter
+// of its own, since an array's length is no sum or product of parameters.
 // `numbers` has the number of each state found, counted from 1, and 1 for 0, which is no state, so that one test decides whether a code leads to a new one.
-// A search that ends early is made of `begin` and `note`, with a test of its own.
-ghost use Rattle.std.specs.Prelude.{◌≡◌, [], ◌∷◌, ◌++◌, ◌/◌, ◌≤◌, ◌<◌, length, set};
-ghost use Rattle.automaton.specs.Explore.{add};
-ghost use Rattle.definitions.specs.Book as Book;
-ghost use Rattle.definitions.specs.Checked.{BookPassed};
-ghost use Rattle.search.specs.Trail.{history_at};
-ghost use Rattle.search.specs.Found.{SmallTable, states_of, found_in, Arrays, EmptyArrays, visited_at, CanVisit, book_states};
-
-use crate::trail::put;
-
-// State 1 is found, with no history.
-pub fn begin(order: &mut [u8], numbers: &mut [u8])
-    requires { (1 ≤ length order.old) × (2 ≤ length numbers.old) }
-    ensures { (order.new ≡ set order.old 0 1) × (numbers.new ≡ set (set numbers.old 0 1) 1 1) }
-{
-    order[0] = 1;
-    numbers[0] = 1;
-    numbers[1] = 1;
+#[derive(Drop)]
+pub struct Search<const N: usize, const M: usize> {
+    order: [u8; N],
+    trail: [u8; M],
+    numbers: [u8; N],
+    count: usize,
+    // What the arrays' types say, for the proofs of callers.
+    pub ghost lengths: { (length order ≡ N) × (length trail ≡ M) × (length numbers ≡ N) },
+    pub ghost sizes: { (N ≤ 128) × (M ≡ 2 * N) },
+    pub ghost within: { count < N },
+    pub ghost earlier: { EarlierParents count (first_at trail) },
+    pub ghost numbered: { (s : ℕ) → s < N → Numbered count order trail numbers s },
 }
 
-// A state that is possible and new goes to the end of the `n` found, with the place and the code that led to it. Returns how many there are then.
-pub fn note(
-    order: &mut [u8],
-    trail: &mut [u8],
-    numbers: &mut [u8],
-    n: usize,
-    state: usize,
-    from: usize,
-    code: usize,
-) -> usize
-    requires arrays { Arrays (found_in n order.old trail.old) n order.old trail.old numbers.old }
-    requires state_in_bounds { (state < length numbers.old) × (from < n) × (code < 256) }
-    requires code_in_bounds { length (add (found_in n order.old trail.old) state (history_at trail.old from ++ (code ∷ []))) < length numbers.old }
-    ensures { Arrays (add (found_in n order.old trail.old) state (history_at trail.old from ++ (code ∷ [])))
-        result order.new trail.new numbers.new }
-{
-    if 0 < numbers[state] {
-        return n;
+impl<const N: usize, const M: usize> Search<N, M> {
+    ghost use Rattle.automaton.specs.Explore.{add};
+    ghost use Rattle.definitions.specs.Answer.{written};
+    ghost use Rattle.definitions.specs.Book as Book;
+    ghost use Rattle.definitions.specs.Checked.{BookPassed};
+    ghost use Rattle.search.specs.Found.{SmallTable, started, states_of, book_states};
+    ghost use Rattle.search.specs.Searched.{found_by, state_of, history_of, visited_at, CanVisit};
+
+    // State 1 is found, with no history.
+    pub fn new() -> Self
+        requires { (2 ≤ N) × (N ≤ 128) × (M ≡ 2 * N) }
+        ensures { found_by result ≡ started }
+    {
+        let mut order = [0; N];
+        order[0] = 1;
+        let mut numbers = [0; N];
+        numbers[0] = 1;
+        numbers[1] = 1;
+        Search {
+            order,
+            trail: [0; M],
+            numbers,
+            count: 1,
+        }
     }
-    let more = n + 1;
-    order[n] = state as u8;
-    put(trail, n, from as u8, code as u8);
-    numbers[state] = more as u8;
-    more
-}
 
-// The codes are tried, in order, from the state at place `i` of the `n` found. Returns how many there are then.
-fn visit(
-    rows: &[u8],
-    width: usize,
-    order: &mut [u8],
-    trail: &mut [u8],
-    numbers: &mut [u8],
-    n: usize,
-    i: usize,
-) -> usize
-    requires small_table { SmallTable rows.now width × CanVisit rows.now width order.old trail.old n i }
-    requires arrays { Arrays (found_in n order.old trail.old) n order.old trail.old numbers.old × (length rows.now / width < length numbers.old) }
-    ensures { Arrays (visited_at rows.now width order.old trail.old n i)
-        result order.new trail.new numbers.new }
-{
-    let start = (usize::from(order[i]) - 1) * width;
-    let row = &rows[start..start + width];
-    let mut k = n;
-    for (c, &state) in row.iter().enumerate() {
-        let there = usize::from(state);
-        k = note(order, trail, numbers, k, there, i, c);
+    // The states found, in the order of their earliest histories.
+    pub fn states(&self) -> &[u8]
+        ensures { result.now ≡ take self.now.count self.now.order }
+    {
+        &self.order[..self.count]
     }
-    k
-}
 
-// The states that histories reach from state 1 in a table, given as its rows of `width` entries one after another: in the order of their earliest history,
-// each with that history, and with the number of each. Returns how many there are.
-pub fn explore(
-    rows: &[u8],
-    width: usize,
-    order: &mut [u8],
-    trail: &mut [u8],
-    numbers: &mut [u8],
-) -> usize
-    requires { SmallTable rows.now width × EmptyArrays (length rows.now / width) order.old trail.old numbers.old }
-    ensures { Arrays (states_of rows.now width) result order.new trail.new numbers.new }
-{
-    begin(order, numbers);
-    let mut n = 1;
-    let mut i = 0;
-    // The number of states found grows as they are visited.
-    while i < n {
-        n = visit(rows, width, order, trail, numbers, n, i);
-        i += 1;
+    // How many states are found.
+    pub fn count(&self) -> usize
+        ensures { result ≡ self.now.count }
+    {
+        self.states().len()
     }
-    n
-}
 
-// The states of a book that passes the checks, in the order of their earliest history, each with that history, and with the number of each. Returns how many
-// there are.
-pub fn explore_book(
-    book: &[u8],
-    width: usize,
-    order: &mut [u8],
-    trail: &mut [u8],
-    numbers: &mut [u8],
-) -> usize
-    requires { BookPassed book.now × (width ≡ Book.width book.now) × EmptyArrays (Book.states book.now) order.old trail.old numbers.old }
-    ensures { Arrays (book_states book.now) result order.new trail.new numbers.new }
-{
-    explore(&book[12..], width, order, trail, numbers)
+    // The state at a place.
+    pub fn state(&self, place: usize) -> usize
+        requires { place < self.now.count }
+        ensures { result ≡ state_of self.now place }
+    {
+        usize::from(self.order[place])
+    }
+
+    // The place of the state that the one at a place was found from.
+    pub fn parent(&self, place: usize) -> usize
+        requires { place < self.now.count }
+        ensures { result ≡ first_at self.now.trail place }
+    {
+        usize::from(self.trail[2 * place])
+    }
+
+    // A state that is possible and new goes to the end of those found, with the place and the code that led to it.
+    pub fn note(&mut self, state: usize, from: usize, code: usize)
+        requires in_bounds { (state < N) × (from < self.old.count) × (code < 256) }
+        requires room { length (add (found_by self.old) state (history_of self.old from ++ (code ∷ []))) < N }
+        ensures { found_by self.new ≡ add (found_by self.old) state (history_of self.old from ++ (code ∷ [])) }
+    {
+        if 0 < self.numbers[state] {
+            return;
+        }
+        let n = self.count;
+        self.order[n] = state as u8;
+        trail::put(&mut self.trail, n, from as u8, code as u8);
+        self.count = n + 1;
+        self.numbers[state] = self.count as u8;
+    }
+
+    // The codes are tried, in order, from the state at a place.
+    fn visit(&mut self, rows: &[u8], width: usize, place: usize)
+        requires small_table { SmallTable rows.now width × CanVisit rows.now width self.old place }
+        requires room { length rows.now / width < N }
+        ensures { found_by self.new ≡ visited_at rows.now width self.old place }
+    {
+        let start = (self.state(place) - 1) * width;
+        let row = &rows[start..start + width];
+        for (code, &state) in row.iter().enumerate() {
+            let there = usize::from(state);
+            self.note(there, place, code);
+        }
+    }
+
+    // The states that histories reach from state 1 in a table, given as its rows of `width` entries one after another, where only state 1 is found yet: in the
+    // order of their earliest history, each with that history.
+    pub fn explore(&mut self, rows: &[u8], width: usize)
+        requires small_table { SmallTable rows.now width × (length rows.now / width < N) }
+        requires begun { found_by self.old ≡ started }
+        ensures { found_by self.new ≡ states_of rows.now width }
+    {
+        let mut i = 0;
+        // The number of states found grows as they are visited.
+        while i < self.count {
+            self.visit(rows, width, i);
+            i += 1;
+        }
+    }
+
+    // The same for a book that passes the checks.
+    pub fn explore_book(&mut self, book: &[u8], width: usize)
+        requires book_passed { BookPassed book.now × (width ≡ Book.width book.now) × (Book.states book.now < N) }
+        requires begun { found_by self.old ≡ started }
+        ensures { found_by self.new ≡ book_states book.now }
+    {
+        self.explore(&book[12..], width);
+    }
+
+    // Writes the codes that lead to a place, of which there are n, to the front of the buffer. The bytes after them are unchanged.
+    pub fn write_codes(&self, place: usize, n: usize, buffer: &mut [u8])
+        requires { (place < self.now.count) × (place ≤ length buffer.old) × (n ≡ length (history_of self.now place)) }
+        ensures { buffer.new ≡ written (history_of self.now place) buffer.old }
+    {
+        trail::write_codes(&self.trail, place, n, buffer);
+    }
+
+    // The same where the caller does not know how many codes there are. Returns their number.
+    pub fn write_history(&self, place: usize, buffer: &mut [u8]) -> usize
+        requires { (place < self.now.count) × (place ≤ length buffer.old) }
+        ensures value { result ≡ length (history_of self.now place) }
+        ensures buffer_after { buffer.new ≡ written (history_of self.now place) buffer.old }
+    {
+        trail::write_history(&self.trail, place, buffer)
+    }
 }

@@ -4,5 +4,5 @@
 mod breadth_first;
 mod trail;
 
-pub use breadth_first::{begin, explore, explore_book, note};
-pub use trail::{put, write_codes, write_history};
+pub use breadth_first::Search;
+pub use trail::{put, write_history};

@@ -33,7 +33,7 @@ fn history_length(trail: &[u8], i: usize) -> usize
 pub fn write_codes(trail: &[u8], i: usize, n: usize, buffer: &mut [u8])
     requires i_in_bounds { 2 * i + 1 < length trail.now }
     requires earlier_parents { EarlierParents (suc i) (first_at trail.now) }
-    requires i_in_bounds_2 { (i ≤ length buffer.old) × (n ≡ length (history_at trail.now i)) }
+    requires room { (i ≤ length buffer.old) × (n ≡ length (history_at trail.now i)) }
     ensures { buffer.new ≡ written (history_at trail.now i) buffer.old }
 {
     let mut k = i;
@@ -50,7 +50,7 @@ pub fn write_codes(trail: &[u8], i: usize, n: usize, buffer: &mut [u8])
 pub fn write_history(trail: &[u8], i: usize, buffer: &mut [u8]) -> usize
     requires i_in_bounds { 2 * i + 1 < length trail.now }
     requires earlier_parents { EarlierParents (suc i) (first_at trail.now) }
-    requires i_in_bounds_2 { i ≤ length buffer.old }
+    requires room { i ≤ length buffer.old }
     ensures value { result ≡ length (history_at trail.now i) }
     ensures buffer_after { buffer.new ≡ written (history_at trail.now i) buffer.old }
 {

@@ -9,7 +9,7 @@ overflow_sub-j c = writing-some _ _ c.requires.earlier_parents _ _ _ _ c.loop-k.
 pub bounds-buffer-j : goal.bounds-buffer-j
 bounds-buffer-j c =
     let falls = c.requires.earlier_parents in
-    omega (arith, writing-some _ _ falls _ _ _ _ c.loop-k.invariant c.loop-k-test.true, writing-few _ _ falls _ _ _ _ c.loop-k.invariant c.requires.i_in_bounds_2.0)
+    omega (arith, writing-some _ _ falls _ _ _ _ c.loop-k.invariant c.loop-k-test.true, writing-few _ _ falls _ _ _ _ c.loop-k.invariant c.requires.room.0)
 
 pub loop-k-smaller : goal.loop-k-smaller
 loop-k-smaller c =
@@ -18,7 +18,7 @@ loop-k-smaller c =
 pub loop-k-preserved : goal.loop-k-preserved
 loop-k-preserved c =
     let pre = c.requires in
-    writing-turn _ _ pre.earlier_parents _ _ _ _ c.loop-k.invariant c.loop-k-test.true pre.i_in_bounds_2.0 _ c.from-k.ensures
+    writing-turn _ _ pre.earlier_parents _ _ _ _ c.loop-k.invariant c.loop-k-test.true pre.room.0 _ c.from-k.ensures
 
 pub returns : goal.returns
 returns c = writing-done _ _ c.requires.earlier_parents _ _ _ _ c.loop-k.invariant (omega arith)
