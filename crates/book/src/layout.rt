@@ -18,6 +18,19 @@ pub struct Book<'a> {
 }
 
 impl<'a> Book<'a> {
+    // The book in bytes that rows 12 to 14 let pass.
+    pub fn new(bytes: &'a [u8]) -> Book<'a>
+        requires { BookPassed bytes.now }
+        ensures { result.bytes ≡ bytes.entry }
+    {
+        let requests = header::requests(bytes);
+        Book {
+            bytes,
+            requests,
+            width: header::width(bytes, requests),
+        }
+    }
+
     // E, the number of events.
     pub fn events(self) -> usize
         ensures { result ≡ B.events self.entry.bytes.now }

@@ -108,7 +108,7 @@ module _ {m : Machine} {s : ℕ} {l found₀ row₀ found row : List ℕ} {k c :
     }
 
     -- the 128th is found
-    pub tried-over : {found'' row'' : List ℕ} → 127 < max k r → VisitedState m s l found₀ row₀ (max k r) found'' row''
+    pub tried-over : {found'' row'' : List ℕ} → 127 < max k r → VisitedState m s l found₀ row₀ 128 found'' row''
     tried-over over = record {
       over = λ _. omega (arith, tried-count, after_grows m s l (suc c) m.width b);
       count = λ few. absurd (omega arith);

@@ -1,13 +1,13 @@
 -- A state is looked up among the first n of an array, and put in after them where it is new.
 use mathlib.Core.Path.{◌≡◌, sym, ap, ◌∙◌}
-use mathlib.Core.Bool.{true, false≢true, ◌&&◌}
+use mathlib.Core.Bool.{true}
 use mathlib.Core.List.{List, [], ◌∷◌, ◌++◌}
-use Prim.Native.Nat.{ℕ, zero, suc, ◌+◌, ◌-◌, ◌<◌, ◌≤◌}
+use Prim.Native.Nat.{ℕ, ◌+◌, ◌-◌, ◌<◌, ◌≤◌}
 use native.Mathlib.Omega.{arith}
 use native.Mathlib.Numerals.{add-one}
-use lib.Dec.{eqb, leb, ltb}
+use lib.Dec.{eqb, leb}
 use lib.ListN.{length, get_or, take, set}
-use lib.Seq.{length-take-le, get_or-take}
+use lib.Seq.{length-take-le}
 use borrow.Author.Tests.{eqb-true, leb-true, lt-ltb}
 use Rattle.automaton.specs.Below.{place_of}
 use Rattle.automaton.proofs.Below.{and-true}
@@ -32,20 +32,18 @@ module _ (found : List ℕ) (n x : ℕ) (room : n < length found) where
       (rw same (sym is), rw same (sym (written-take n found (omega arith))))
 
   -- a hint that is right
-  pub note_hint : Once (take n found) → (r : ℕ) → is_number found n x r ≡ true → Noted r found
-  note_hint once zero e = absurd (false≢true e)
-  note_hint once (suc k) e =
-      let both = and-true (leb (suc k) n) (eqb (get_or found (suc k - 1) 0) x) (rw (lt-ltb 0 (suc k) (omega arith)) at e) in
-      let last : suc k - 1 ≡ k = omega arith in
-      let inside : suc k ≤ n = leb-true (suc k) n both.0 in
-      let here : get_or (take n found) k 0 ≡ x = get_or-take n found k 0 inside ∙ rw last at (eqb-true (get_or found (suc k - 1) 0) x both.1) in
-      let place : k < length (take n found) = omega (arith, length-take-le n found (omega arith)) in
-      note_known (suc k) (rw here at (once k place)) (omega arith)
+  module _ (k : ℕ) (is : is_number (take n found) (length (take n found)) x (k + 1) ≡ true) where
+    both : (leb (k + 1) (length (take n found)) ≡ true) × (eqb (get_or (take n found) (k + 1 - 1) 0) x ≡ true)
+    both = and-true (leb (k + 1) (length (take n found))) (eqb (get_or (take n found) (k + 1 - 1) 0) x) (rw (lt-ltb 0 (k + 1) (omega arith)) at is)
 
-  pub hint-within : (r : ℕ) → is_number found n x r ≡ true → r ≤ length (take n found)
-  hint-within r e =
-      let inside = leb-true r n (and-true (leb r n) (eqb (get_or found (r - 1) 0) x) (and-true (ltb 0 r) (leb r n && eqb (get_or found (r - 1) 0) x) e).1).0 in
-      omega (arith, length-take-le n found (omega arith))
+    pub hint-within : k + 1 ≤ length (take n found)
+    hint-within = leb-true (k + 1) (length (take n found)) both.0
+
+    pub note_hint : Once (take n found) → Noted (k + 1) found
+    note_hint once =
+        let last : k + 1 - 1 ≡ k = omega arith in
+        let here : get_or (take n found) k 0 ≡ x = rw last at (eqb-true (get_or (take n found) (k + 1 - 1) 0) x both.1) in
+        note_known (k + 1) (rw (add-one, ← here) (once k (omega (arith, hint-within)))) (omega arith)
 
   -- its number is a byte
   pub noted_low : (r : ℕ) → r ≡ number_among (add_state (take n found) x) x → r ≤ n + 1

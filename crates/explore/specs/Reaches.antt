@@ -1,5 +1,5 @@
 -- What a visit of a state and the whole search leave in the arrays.
-use Rattle.std.specs.Prelude.{◌≡◌, Bool, cond, ◌&&◌, List, ℕ, suc, min, ◌-◌, ◌*◌, ◌%◌, ◌<◌, ◌≤◌, eqb, leb, ltb, length, get_or}
+use Rattle.std.specs.Prelude.{◌≡◌, Bool, cond, Option, None, Some, zero, ◌&&◌, List, ℕ, suc, min, ◌-◌, ◌*◌, ◌%◌, ◌<◌, ◌≤◌, eqb, leb, ltb, length, get_or}
 use Rattle.automaton.specs.Machine.{Machine}
 use Rattle.automaton.specs.Explore.{Reached, reached}
 use Rattle.automaton.specs.Table.{table}
@@ -16,6 +16,11 @@ Once l = (k : ℕ) → k < length l → number_among l (get_or l k 0) ≡ suc k
 -- each number of the list has left a hint at the place that it decides
 pub record Hinted (l hints : List ℕ) : Type 0 where
   pub hint : (k : ℕ) → k < length l → 1 ≤ byte hints (get_or l k 0 % 251)
+
+-- a number that counts from 1; none for 0
+abbrev pub positive : ℕ → Option ℕ
+positive zero = None
+positive (suc k) = Some (suc k)
 
 -- the number is that of a place among the first n, and x stands there
 abbrev pub is_number : List ℕ → ℕ → ℕ → ℕ → Bool

@@ -38,7 +38,7 @@ same_not s true f g = f refl
 same_not s false f g = g refl
 
 -- ---- what marks say that are a fixed point
-module _ (b : List ℕ) (p : BookPassed b) (marks : List ℕ) (M : Marks b marks) (F : FixedPoint b marks) where
+module _ (b : List ℕ) (p : BookPassed b) (marks : List Bool) (M : Marks b marks) (F : FixedPoint b marks) where
   -- from a state that is not marked events lead to such states
   event_unmarked : (s c : ℕ) → 1 ≤ s → s ≤ states b → marked marks s ≡ false → c < events b → marked marks (entry b s c) ≡ false
   event_unmarked s c least few e l =
@@ -58,7 +58,7 @@ module _ (b : List ℕ) (p : BookPassed b) (marks : List ℕ) (M : Marks b marks
 none_at : (f : ℕ → Bool) (n k : ℕ) → any_below n f ≡ false → k < n → f k ≡ false
 none_at f n k e l = is_false (f k) (λ q. false≢true (sym e ∙ any_below_law f n k l q))
 
-module _ (b : List ℕ) (ok : BookPassed b) (marks : List ℕ) (M : Marks b marks) (F : FixedPoint b marks)
+module _ (b : List ℕ) (ok : BookPassed b) (marks : List Bool) (M : Marks b marks) (F : FixedPoint b marks)
     (h : History) (here : possible (book_machine b) h ≡ true) where
   abbrev s : ℕ
   s = after (book_machine b) 1 h
@@ -120,18 +120,18 @@ module _ (b : List ℕ) (ok : BookPassed b) {n : ℕ} {order trail : List ℕ} (
       let end = lowest-end at n n (λ k l. answering_at k l (none_found Missing b H e k l)) (omega arith) (omega arith) in
       rw (blocked-by none (first-none (is_blocked b) order trail n at (λ k l. refl) (omega (arith, end)))) (refl, refl)
 
-  module _ {marks : List ℕ} (M : Marks b marks) (F : FixedPoint b marks) where
+  module _ {marks : List Bool} (M : Marks b marks) (F : FixedPoint b marks) where
     blocked-at : (k : ℕ) → k < n → is_blocked b (byte order k) ≡ unmarked_at marks order k
     blocked-at k l =
         subst (λ (s : ℕ). is_blocked b s ≡ not (marked marks s)) (book-leads b H ok k l) (blocked-is b ok marks M F (Trail.history_at trail k) (possible_at_law k l))
 
-    pub tells_none : n ≤ lowest_below n (unmarked_at marks order) → (buffer : List ℕ) → Tells none buffer buffer
-    tells_none l buffer = rw (blocked-by none (first-none (is_blocked b) order trail n (unmarked_at marks order) blocked-at l)) (refl, refl)
+    pub tells_none : lowest_below n (unmarked_at marks order) ≡ n → (buffer : List ℕ) → Tells none buffer buffer
+    tells_none e buffer = rw (blocked-by none (first-none (is_blocked b) order trail n (unmarked_at marks order) blocked-at (omega (arith, e)))) (refl, refl)
 
-    pub tells-blocked : (k m : ℕ) (buffer after : List ℕ) → k ≡ lowest_below n (unmarked_at marks order) → k < n
+    pub tells-blocked : (k m : ℕ) (buffer after : List ℕ) → (k < n) × (k ≡ lowest_below n (unmarked_at marks order))
         → m ≡ length (Trail.history_at trail k) → after ≡ written (Trail.history_at trail k) buffer → Tells (some (take m after)) buffer after
-    tells-blocked k m buffer after ek l em ea =
+    tells-blocked k m buffer after first em ea =
         rw (
-          blocked-by (some (reached_at order trail k)) (first_some (is_blocked b) order trail n (unmarked_at marks order) blocked-at k ek l),
+          blocked-by (some (reached_at order trail k)) (first_some (is_blocked b) order trail n (unmarked_at marks order) blocked-at k first.1 first.0),
           written_read (Trail.history_at trail k) buffer m after em ea,
         ) (refl, ea)

@@ -1,22 +1,13 @@
 -- What is found is what document 01 says.
-use mathlib.Core.Path.{◌≡◌, sym}
-use mathlib.Core.Bool.{false, true≢false}
+use mathlib.Core.Path.{◌≡◌}
 use mathlib.Core.List.{List}
-use mathlib.Core.Option.{Option, none}
+use mathlib.Core.Option.{Option}
 use Prim.Native.Nat.{ℕ}
 use Rattle.automaton.specs.History.{History}
 use Rattle.definitions.specs.Answer.{written, history_bytes}
 use Rattle.definitions.specs.Verdict.{Found, findings, found_history, conflict, missing, blocked}
-use Rattle.findings.specs.SoughtRequests.{sought_finding, is_found}
-use Rattle.findings.specs.FindingsOf.{found_of}
+use Rattle.findings.specs.SoughtRequests.{sought_finding}
 use Rattle.findings.specs.declared.requests.Sought.TheVariants.{Conflict, Missing}
-use Rattle.findings.specs.declared.finding.Finding.{Finding}
-use Rattle.findings.specs.declared.finding.Finding.TheVariants as Variant
-
--- an answer that has no finding says that there is none
-pub not_found : (f : Finding) (buffer : List ℕ) (found : Option Found) → found_of f buffer ≡ found → is_found f ≡ false → found ≡ none
-not_found Variant.None buffer found e n = sym e
-not_found (Variant.Found request m) buffer found e n = absurd (true≢false n)
 
 module _ (b : List ℕ) where
   pub findings-are : (c m : Option Found) (k : Option History) → c ≡ sought_finding Conflict b → m ≡ sought_finding Missing b → k ≡ blocked b

@@ -3,7 +3,7 @@ use mathlib.Core.Path.{◌≡◌, refl, sym, ap, ◌∙◌}
 use mathlib.Core.Bool.{false, true≢false}
 use mathlib.Core.List.{List}
 use mathlib.Core.Option.{Option, none, some}
-use Prim.Native.Nat.{ℕ, ◌≤◌, ◌<◌}
+use Prim.Native.Nat.{ℕ, ◌<◌}
 use native.Mathlib.Decide.{dec_lt}
 use native.Mathlib.Omega.{arith}
 use lib.ListN.{length, take}
@@ -40,16 +40,16 @@ module _ (sought : Sought) (b : List ℕ) {n : ℕ} {order trail : List ℕ} (H 
           (first_some (some_request (test_of sought) b) order trail n (some_at sought b order) (λ k b. refl) (lowest_below n (some_at sought b order)) refl h))))
       go (no h) = (lowest_below_law (some_at sought b order) n).first k (omega arith)
 
-  pub says_none : n ≤ lowest_below n (some_at sought b order) → (buffer : List ℕ) → Says none buffer buffer
-  says_none l buffer =
-      rw (says none (first-none (some_request (test_of sought) b) order trail n (some_at sought b order) (λ k b. refl) l)) (refl, refl)
+  pub says_none : lowest_below n (some_at sought b order) ≡ n → (buffer : List ℕ) → Says none buffer buffer
+  says_none e buffer =
+      rw (says none (first-none (some_request (test_of sought) b) order trail n (some_at sought b order) (λ k b. refl) (omega (arith, e)))) (refl, refl)
 
   -- m codes are written
-  pub says-found : (k r m : ℕ) (buffer after : List ℕ) → IsHit sought b order n k r → k < n → m ≡ length (history_at trail k)
+  pub says-found : (k r m : ℕ) (buffer after : List ℕ) → IsHit sought b order n k r → m ≡ length (history_at trail k)
       → after ≡ written (history_at trail k) buffer → Says (some (record { request = r; history = take m after })) buffer after
-  says-found k r m buffer after hit l em ea =
+  says-found k r m buffer after hit em ea =
       rw (
-        says (some (reached_at order trail k)) (first_some (some_request (test_of sought) b) order trail n (some_at sought b order) (λ k b. refl) k hit.first l),
+        says (some (reached_at order trail k)) (first_some (some_request (test_of sought) b) order trail n (some_at sought b order) (λ k b. refl) k hit.first hit.within),
         written_read (history_at trail k) buffer m after em ea,
-        hit.lowest l,
+        hit.lowest,
       ) (refl, ea)

@@ -1,13 +1,11 @@
 -- The requests that are sought at a state, and the finding.
-use Rattle.std.specs.Prelude.{◌≡◌, Bool, true, false, not, List, ℕ, ◌<◌}
-use Rattle.std.proofs.Math.Option.{Option}
+use Rattle.std.specs.Prelude.{◌≡◌, Bool, true, false, not, Option, MatchOption, List, ℕ, ◌<◌}
+use Rattle.std.proofs.Math.Option as Maybe
 use Rattle.automaton.specs.Below.{lowest_below}
 use Rattle.definitions.specs.Bytes.{byte}
 use Rattle.definitions.specs.Book.{requests}
 use Rattle.definitions.specs.Telling.{Telling, none, both, accept, reject, in_conflict, unanswered, answered, some_request}
 use Rattle.definitions.specs.Verdict.{Found, finding}
-use Rattle.findings.specs.declared.finding.Finding as F
-use Rattle.findings.specs.declared.finding.Finding.TheVariants as Finding
 use Rattle.findings.specs.declared.requests.Sought.{Sought}
 use Rattle.findings.specs.declared.requests.Sought.TheVariants.{Conflict, Missing, Answer}
 
@@ -40,16 +38,16 @@ test_of Answer = answered
 abbrev pub some_at : Sought → List ℕ → List ℕ → ℕ → Bool
 some_at sought b order k = some_request (test_of sought) b (byte order k)
 
--- place k is the first of n that has a state with a request that is sought, and r its lowest such request; n if there is none
+-- the lowest number below n that passes, or none
+abbrev pub IsLowest : ℕ → (ℕ → Bool) → Option ℕ → Type 0
+IsLowest n f found = MatchOption found (lowest_below n f ≡ n) (λ k. (k < n) × (k ≡ lowest_below n f))
+
+-- place k is the first of n that has a state with a request that is sought, and r its lowest such request
 pub record IsHit (sought : Sought) (b order : List ℕ) (n k r : ℕ) : Type 0 where
+  pub within : k < n
   pub first : k ≡ lowest_below n (some_at sought b order)
-  pub lowest : k < n → r ≡ lowest_below (requests b) (test_of sought b (byte order k))
+  pub lowest : r ≡ lowest_below (requests b) (test_of sought b (byte order k))
 
 -- the finding for what is sought
-unfoldable pub sought_finding : Sought → List ℕ → Option Found
+unfoldable pub sought_finding : Sought → List ℕ → Maybe.Option Found
 sought_finding sought b = finding (test_of sought) b
-
--- an answer that has a finding
-abbrev pub is_found : F.Finding → Bool
-is_found Finding.None = false
-is_found (Finding.Found request n) = true

@@ -1,35 +1,26 @@
 // The three findings on a book, from its states in the order of their earliest history.
-ghost use Rattle.std.specs.Prelude.{◌≡◌, false, ℕ, ◌*◌, ◌≤◌, ◌<◌, length};
+ghost use Rattle.std.specs.Prelude.{◌≡◌, ℕ, ◌≤◌, ◌<◌, length, MatchOption, IsNone};
 ghost use Rattle.std.proofs.Math.Option.{none};
 ghost use Rattle.automaton.specs.Below.{lowest_below};
 ghost use Rattle.definitions.specs.Answer.{written, history_bytes};
-ghost use Rattle.definitions.specs.Book as Book;
-ghost use Rattle.definitions.specs.Bytes.{byte};
-ghost use Rattle.definitions.specs.Checked.{BookPassed};
 ghost use Rattle.definitions.specs.Verdict.{found_history, blocked};
-ghost use Rattle.search.specs.Found.{Holds, StatesIn, book_states};
-ghost use Rattle.findings.specs.SoughtRequests.{IsHit, sought_finding, is_found};
+ghost use Rattle.search.specs.Found.{StatesIn, book_states};
+ghost use Rattle.search.specs.Searched.{found_by, state_of};
+ghost use Rattle.findings.specs.SoughtRequests.{some_at, IsLowest, IsHit, sought_finding};
 ghost use Rattle.findings.specs.Marks.{unmarked_at};
 ghost use Rattle.findings.specs.FindingsOf.{found_of, blocked_of};
 ghost use Rattle.findings.specs.declared.requests.Sought.TheVariants.{Missing};
 
 use crate::marks::mark;
 use crate::requests::{Sought, lowest};
-use automaton::wide;
-use search::write_history;
+use book::Book;
+use search::Search;
 
-// A finding with a request: none, or the request and how many codes its history has.
-#[derive(Clone, Copy)]
-pub enum Finding {
-    None,
-    Found { request: usize, length: usize },
-}
-
-// The finding that no request is answered: none, or how many codes its history has.
-#[derive(Clone, Copy)]
-pub enum Blocked {
-    None,
-    After { length: usize },
+// A finding with a request: the request, and how many codes its history has.
+#[derive(Clone, Copy, Debug, PartialEq, Eq)]
+pub struct Found {
+    pub request: usize,
+    pub length: usize,
 }
 
 // A state with a request that is sought, by its place, and the lowest such request.
@@ -39,105 +30,72 @@ struct Hit {
     request: usize,
 }
 
-// The first of the `n` states in `order`, found by a search, with a request that is sought; its place is `n` if there is none.
-fn first_with(book: &[u8], requests: usize, order: &[u8], n: usize, sought: Sought) -> Hit
-    requires { BookPassed book.now × (requests ≡ Book.requests book.now) × (n ≤ length order.now) × StatesIn book.now n order.now }
-    ensures { IsHit sought book.now order.now n result.place result.request }
+// The first of the states found by a search with a request that is sought.
+fn first_with(book: Book, search: &Search<128, 256>, sought: Sought) -> Option<Hit>
+    requires { StatesIn book.bytes.now search.now.count search.now.order }
+    ensures { MatchOption result (lowest_below search.now.count (some_at sought book.entry.bytes.now search.now.order) ≡ search.now.count)
+        (λ hit. IsHit sought book.entry.bytes.now search.now.order search.now.count hit.place hit.request) }
 {
-    let mut k = 0;
-    while k < n {
-        let request = lowest(book, requests, wide(order[k]), sought);
-        if request < requests {
-            return Hit { place: k, request };
+    for place in 0..search.count() {
+        if let Some(request) = lowest(book, search.state(place), sought) {
+            return Some(Hit { place, request });
         }
-        k += 1;
     }
-    Hit {
-        place: k,
-        request: 0,
-    }
+    None
 }
 
 // The finding for what is sought, with its history at the front of the buffer.
 pub fn find(
-    book: &[u8],
-    requests: usize,
-    order: &[u8],
-    trail: &[u8],
-    n: usize,
+    book: Book,
+    search: &Search<128, 256>,
     sought: Sought,
     buffer: &mut [u8],
-) -> Finding
-    requires book_passed { BookPassed book.now × (requests ≡ Book.requests book.now) × Holds (book_states book.now) n order.now trail.now }
-    requires book_in_bounds { (Book.states book.now ≤ length order.now) × (2 * Book.states book.now ≤ length trail.now) × (128 ≤ length buffer.old) }
-    ensures buffer_after { found_of result buffer.new ≡ sought_finding sought book.now }
-    ensures buffer_after_2 { buffer.new ≡ written (history_bytes (found_history (sought_finding sought book.now))) buffer.old }
+) -> Option<Found>
+    requires found { found_by search.now ≡ book_states book.bytes.now }
+    requires room { 128 ≤ length buffer.old }
+    ensures answer { found_of result buffer.new ≡ sought_finding sought book.entry.bytes.now }
+    ensures buffer_after { buffer.new ≡ written (history_bytes (found_history (sought_finding sought book.entry.bytes.now))) buffer.old }
 {
-    let hit = first_with(book, requests, order, n, sought);
-    let k = hit.place;
-    if n <= k {
-        return Finding::None;
-    }
-    let length = write_history(trail, k, buffer);
-    Finding::Found {
+    let hit = first_with(book, search, sought)?;
+    let length = search.write_history(hit.place, buffer);
+    Some(Found {
         request: hit.request,
         length,
-    }
+    })
 }
 
-// The first of the `n` states in `order` that is not marked, `n` if there is none.
-fn first_unmarked(order: &[u8], n: usize, marks: &[u8]) -> usize
-    requires { (n ≤ length order.now) × ((k : ℕ) → k < n → byte order.now k < length marks.now) }
-    ensures { result ≡ lowest_below n (unmarked_at marks.now order.now) }
+// The place of the first of the states found that is not marked.
+fn first_unmarked(search: &Search<128, 256>, marks: &[bool]) -> Option<usize>
+    requires { (k : ℕ) → k < search.now.count → state_of search.now k < length marks.now }
+    ensures { IsLowest search.now.count (unmarked_at marks.now search.now.order) result }
 {
-    let mut i = 0;
-    while i < n {
-        if marks[wide(order[i])] == 0 {
-            return i;
+    for i in 0..search.count() {
+        if !marks[search.state(i)] {
+            return Some(i);
         }
-        i += 1;
     }
-    i
+    None
 }
 
-fn is_found(finding: Finding) -> bool
-    ensures { result ≡ is_found finding }
-{
-    match finding {
-        Finding::None => false,
-        Finding::Found {
-            request: _,
-            length: _,
-        } => true,
-    }
-}
-
-// The finding that no request is answered, now or after any list of events, with its history at the front of the buffer. The caller hands in the second
-// finding: where no request is missing, no state is blocked.
+// The finding that no request is answered, now or after any list of events: how many codes its history has, which is at the front of the buffer. The caller
+// hands in the second finding: where no request is missing, no state is blocked.
 pub fn find_blocked(
-    book: &[u8],
-    requests: usize,
-    order: &[u8],
-    trail: &[u8],
-    n: usize,
-    missing: Finding,
+    book: Book,
+    search: &Search<128, 256>,
+    missing: Option<Found>,
     buffer: &mut [u8],
-) -> Blocked
-    requires book_passed { BookPassed book.now × (requests ≡ Book.requests book.now) × Holds (book_states book.now) n order.now trail.now }
-    requires book_value { is_found missing ≡ false → sought_finding Missing book.now ≡ none }
-    requires book_in_bounds { (Book.states book.now ≤ length order.now) × (2 * Book.states book.now ≤ length trail.now) × (128 ≤ length buffer.old) }
-    ensures buffer_after { blocked_of result buffer.new ≡ blocked book.now }
-    ensures buffer_after_2 { buffer.new ≡ written (history_bytes (blocked book.now)) buffer.old }
+) -> Option<usize>
+    requires found { found_by search.now ≡ book_states book.bytes.now }
+    requires missing { IsNone missing → sought_finding Missing book.bytes.now ≡ none }
+    requires room { 128 ≤ length buffer.old }
+    ensures answer { blocked_of result buffer.new ≡ blocked book.entry.bytes.now }
+    ensures buffer_after { buffer.new ≡ written (history_bytes (blocked book.entry.bytes.now)) buffer.old }
 {
-    if !is_found(missing) {
-        return Blocked::None;
+    if missing.is_none() {
+        return None;
     }
-    let mut marks = [0u8; 128];
-    mark(book, requests, &mut marks);
-    let i = first_unmarked(order, n, &marks);
-    if n <= i {
-        return Blocked::None;
-    }
-    let length = write_history(trail, i, buffer);
-    Blocked::After { length }
+    let mut marks = [false; 128];
+    mark(book, &mut marks);
+    let i = first_unmarked(search, &marks)?;
+    Some(search.write_history(i, buffer))
 }

@@ -4,7 +4,6 @@
 
 ghost use Rattle.std.specs.Prelude.{◌≡◌, ◌≤◌, length};
 ghost use Rattle.definitions.specs.Answer.{written, history_bytes};
-ghost use Rattle.definitions.specs.Checked.{BookPassed};
 ghost use Rattle.definitions.specs.Verdict as Verdict;
 ghost use Rattle.findings.specs.FindingsOf.{findings_of};
 
@@ -12,43 +11,34 @@ mod finding;
 mod marks;
 mod requests;
 
-use book::width_from;
-pub use finding::{Blocked, Finding};
+use book::Book;
+pub use finding::Found;
 use finding::{find, find_blocked};
 use requests::Sought;
-use search::explore_book;
+use search::Search;
 
-// The three findings. The history of each that is found is at the front of its buffer.
-#[derive(Clone, Copy)]
+// The three findings. The history of each that is found is at the front of its buffer; of the third, how many codes it has.
+#[derive(Clone, Copy, Debug, PartialEq, Eq)]
 pub struct Findings {
-    pub conflict: Finding,
-    pub missing: Finding,
-    pub blocked: Blocked,
+    pub conflict: Option<Found>,
+    pub missing: Option<Found>,
+    pub blocked: Option<usize>,
 }
 
 // The findings on a book. The history of each that is found goes to the front of its buffer; the bytes after it are unchanged, and so is all of the buffer of a
 // finding that is none.
-pub fn find_all(
-    book: &[u8],
-    conflict: &mut [u8],
-    missing: &mut [u8],
-    blocked: &mut [u8],
-) -> Findings
-    requires { BookPassed book.now × (128 ≤ length conflict.old) × (128 ≤ length missing.old) × (128 ≤ length blocked.old) }
-    ensures blocked_after { findings_of result conflict.new missing.new blocked.new ≡ Verdict.findings book.now }
-    ensures conflict_after { conflict.new ≡ written (history_bytes (Verdict.found_history (Verdict.conflict book.now))) conflict.old }
-    ensures missing_after { missing.new ≡ written (history_bytes (Verdict.found_history (Verdict.missing book.now))) missing.old }
-    ensures blocked_after_2 { blocked.new ≡ written (history_bytes (Verdict.blocked book.now)) blocked.old }
+pub fn find_all(book: Book, conflict: &mut [u8], missing: &mut [u8], blocked: &mut [u8]) -> Findings
+    requires { (128 ≤ length conflict.old) × (128 ≤ length missing.old) × (128 ≤ length blocked.old) }
+    ensures answer { findings_of result conflict.new missing.new blocked.new ≡ Verdict.findings book.entry.bytes.now }
+    ensures conflict_after { conflict.new ≡ written (history_bytes (Verdict.found_history (Verdict.conflict book.entry.bytes.now))) conflict.old }
+    ensures missing_after { missing.new ≡ written (history_bytes (Verdict.found_history (Verdict.missing book.entry.bytes.now))) missing.old }
+    ensures blocked_after { blocked.new ≡ written (history_bytes (Verdict.blocked book.entry.bytes.now)) blocked.old }
 {
-    let q = book::requests(book);
-    let w = width_from(book, q);
-    let mut order = [0u8; 128];
-    let mut trail = [0u8; 256];
-    let mut numbers = [0u8; 128];
-    let n = explore_book(book, w, &mut order, &mut trail, &mut numbers);
-    let first = find(book, q, &order, &trail, n, Sought::Conflict, conflict);
-    let second = find(book, q, &order, &trail, n, Sought::Missing, missing);
-    let third = find_blocked(book, q, &order, &trail, n, second, blocked);
+    let mut search = Search::<128, 256>::new();
+    search.explore_book(book.bytes, book.width);
+    let first = find(book, &search, Sought::Conflict, conflict);
+    let second = find(book, &search, Sought::Missing, missing);
+    let third = find_blocked(book, &search, second, blocked);
     Findings {
         conflict: first,
         missing: second,

@@ -69,6 +69,7 @@ pub fn read_input(rt: &HostRuntime, buffer: &mut [u8]) -> Result<usize, StreamEr
     ensures { Filled result buffer.old buffer.new }
 {
     let mut length = 0;
+    // no count by hand: a turn moves on by as many bytes as one read brought
     while length < buffer.len() {
         let came = read_some(rt, buffer, length)?;
         if came == 0 {

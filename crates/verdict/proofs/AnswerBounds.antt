@@ -5,41 +5,40 @@ use mathlib.Core.Option.{some}
 use Prim.Native.Nat.{ℕ, ◌≤◌, ◌<◌}
 use native.Mathlib.Omega.{arith}
 use lib.ListN.{length}
+use Rattle.std.specs.Prelude.{Option, None, Some, Result, Ok, Err}
 use Rattle.automaton.specs.History.{History}
 use Rattle.definitions.specs.Verdict as Verdict
 use Rattle.definitions.proofs.Written.{length_taken}
+use Rattle.refusal.specs.declared.Refusal.{Refusal}
 use Rattle.findings.specs.FindingsOf.{found_of, blocked_of}
+use Rattle.findings.specs.declared.finding.Found.{Found}
+use Rattle.findings.specs.declared.Findings.{Findings}
 use Rattle.verdict.specs.VerdictAnswer.{judged_answer}
 use Rattle.verdict.specs.AnswerBounds.{BlockedWithin, FindingWithin, JudgedWithin}
-use Rattle.findings.specs.declared.finding.Finding as F
-use Rattle.findings.specs.declared.finding.Finding.TheVariants as Finding
-use Rattle.findings.specs.declared.finding.Blocked as B
-use Rattle.findings.specs.declared.finding.Blocked.TheVariants as Blocked
-use Rattle.verdict.specs.declared.Judged.{Judged}
 use Rattle.verdict.proofs.SmallFindings.{SmallFound, given_small}
 
 -- ---- the findings: the number of codes that are read off a buffer is the length of the history
 module _ (buffer : List ℕ) (room : 128 ≤ length buffer) where
-  finding-within : (r : F.Finding) → ((t : Verdict.Found) → found_of r buffer ≡ some t → SmallFound t) → FindingWithin 128 r × FindingWithin (length buffer) r
-  finding-within Finding.None small = (tt, tt)
-  finding-within (Finding.Found request n) small =
+  finding-within : (r : Option Found) → ((t : Verdict.Found) → found_of r buffer ≡ some t → SmallFound t) → FindingWithin 128 r × FindingWithin (length buffer) r
+  finding-within None small = (tt, tt)
+  finding-within (Some found) small =
       let few = small _ refl in
-      let is = length_taken n buffer (omega arith) in
+      let is = length_taken found.length buffer (omega arith) in
       ((omega arith, omega arith), (omega arith, omega arith))
 
-  blocked-within : (r : B.Blocked) → ((h : History) → blocked_of r buffer ≡ some h → length h < 127) → BlockedWithin 128 r × BlockedWithin (length buffer) r
-  blocked-within Blocked.None small = (tt, tt)
-  blocked-within (Blocked.After n) small =
+  blocked-within : (r : Option ℕ) → ((h : History) → blocked_of r buffer ≡ some h → length h < 127) → BlockedWithin 128 r × BlockedWithin (length buffer) r
+  blocked-within None small = (tt, tt)
+  blocked-within (Some n) small =
       let few = small _ refl in
       let is = length_taken n buffer (omega arith) in
       (omega arith, omega arith)
 
-pub judged-within : (b for_conflict for_missing for_blocked : List ℕ) (r : Judged) (x y z : List ℕ)
+pub judged-within : (b for_conflict for_missing for_blocked : List ℕ) (r : Result Findings Refusal) (x y z : List ℕ)
     → length x ≡ length for_conflict → length y ≡ length for_missing → length z ≡ length for_blocked
     → judged_answer r x y z ≡ Verdict.verdict_answer b for_conflict for_missing for_blocked
     → JudgedWithin 128 128 128 r × JudgedWithin (length x) (length y) (length z) r
-judged-within b for_conflict for_missing for_blocked (Judged.Refused number) x y z ex ey ez e = (tt, tt)
-judged-within b for_conflict for_missing for_blocked (Judged.Given found) x y z ex ey ez e =
+judged-within b for_conflict for_missing for_blocked (Err refusal) x y z ex ey ez e = (tt, tt)
+judged-within b for_conflict for_missing for_blocked (Ok found) x y z ex ey ez e =
     let is = given_small b for_conflict for_missing for_blocked _ e in
     let conflict = finding-within x (omega (arith, is.0.long_conflict)) found.conflict is.1.of_conflict in
     let missing = finding-within y (omega (arith, is.0.long_missing)) found.missing is.1.of_missing in

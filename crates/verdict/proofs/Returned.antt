@@ -1,48 +1,77 @@
 -- The contract of `verdict` leaves nothing free: what is returned is told by document 01's answer, and the numbers of codes are the lengths of its histories.
-use mathlib.Core.Path.{◌≡◌, refl, ap, sym}
-use mathlib.Core.List.{List}
-use mathlib.Core.Option.{Option, none, some}
-use Prim.Native.Nat.{ℕ, ◌≤◌, ◌<◌}
+use mathlib.Core.Path.{◌≡◌, refl, ap, sym, ◌∙◌}
+use mathlib.Core.List.{List, [], ◌∷◌}
+use mathlib.Core.Option as Maybe
+use Prim.Native.Nat.{ℕ, ◌-◌, ◌≤◌, ◌<◌}
 use native.Mathlib.Omega.{arith}
-use lib.ListN.{length}
+use lib.ListN.{length, get_or}
+use Rattle.std.specs.Prelude.{Option, None, Some, Result, Ok, Err}
 use Rattle.automaton.specs.History.{History}
 use Rattle.definitions.specs.Answer.{Answer, refused, given, history_bytes}
 use Rattle.definitions.specs.Verdict as Verdict
 use Rattle.definitions.proofs.Answers.{no_shorter}
 use Rattle.definitions.proofs.Written.{length_taken}
+use Rattle.refusal.specs.Refused.{number_of}
+use Rattle.refusal.specs.declared.Refusal.{Refusal}
+use Rattle.refusal.specs.declared.Refusal.TheVariants.{ShortBuffer, ShortPolicy, PolicyMark, PolicyVersion, PolicyRange, PolicyLength, ValueCount, Mask, RuleValue, Valuations, Situations, BookHeader, BookLayout, BookEntry, Frames, NotInBook, Start, UnknownOutcome}
 use Rattle.findings.specs.FindingsOf.{found_of, blocked_of}
+use Rattle.findings.specs.declared.finding.Found.{Found}
+use Rattle.findings.specs.declared.Findings.{Findings}
 use Rattle.verdict.specs.VerdictAnswer.{judged_answer, buffers_after}
-use Rattle.findings.specs.declared.finding.Finding as F
-use Rattle.findings.specs.declared.finding.Finding.TheVariants as Finding
-use Rattle.findings.specs.declared.finding.Blocked as B
-use Rattle.findings.specs.declared.finding.Blocked.TheVariants as Blocked
-use Rattle.verdict.specs.declared.Judged.{Judged}
-use Rattle.verdict.specs.declared.Judged.TheVariants.{Refused, Given}
 use Rattle.verdict.proofs.SmallFindings.{SmallFound, given_small}
 
+-- ---- the refusal with a number
+abbrev pub refusal_of : ℕ → Refusal
+refusal_of number =
+    get_or (ShortBuffer ∷ ShortPolicy ∷ PolicyMark ∷ PolicyVersion ∷ PolicyRange ∷ PolicyLength ∷ ValueCount ∷ Mask ∷ RuleValue ∷ Valuations ∷ Situations
+    ∷ BookHeader ∷ BookLayout ∷ BookEntry ∷ Frames ∷ NotInBook ∷ Start ∷ []) (number - 1) UnknownOutcome
+
+refusal-is : (r : Refusal) → r ≡ refusal_of (number_of r)
+refusal-is ShortBuffer = refl
+refusal-is ShortPolicy = refl
+refusal-is PolicyMark = refl
+refusal-is PolicyVersion = refl
+refusal-is PolicyRange = refl
+refusal-is PolicyLength = refl
+refusal-is ValueCount = refl
+refusal-is Mask = refl
+refusal-is RuleValue = refl
+refusal-is Valuations = refl
+refusal-is Situations = refl
+refusal-is BookHeader = refl
+refusal-is BookLayout = refl
+refusal-is BookEntry = refl
+refusal-is Frames = refl
+refusal-is NotInBook = refl
+refusal-is Start = refl
+refusal-is UnknownOutcome = refl
+
 -- ---- what is returned for an answer
-abbrev pub finding_of : Option Verdict.Found → F.Finding
-finding_of none = Finding.None
-finding_of (some t) = Finding.Found t.request (length t.history)
+abbrev found_with : ℕ → ℕ → Found
+found_with request n = record { request = request; length = n }
 
-abbrev pub blocking_of : Option History → B.Blocked
-blocking_of none = Blocked.None
-blocking_of (some h) = Blocked.After (length h)
+abbrev pub finding_of : Maybe.Option Verdict.Found → Option Found
+finding_of Maybe.none = None
+finding_of (Maybe.some t) = Some (found_with t.request (length t.history))
 
-abbrev pub judged_of : Answer Verdict.Findings → Judged
-judged_of (refused number) = Refused number
+abbrev pub blocking_of : Maybe.Option History → Option ℕ
+blocking_of Maybe.none = None
+blocking_of (Maybe.some h) = Some (length h)
+
+abbrev pub judged_of : Answer Verdict.Findings → Result Findings Refusal
+judged_of (refused number) = Err (refusal_of number)
 judged_of (given found) =
-    Given (record { conflict = finding_of found.conflict; missing = finding_of found.missing; blocked = blocking_of found.blocked })
+    Ok (record { conflict = finding_of found.conflict; missing = finding_of found.missing; blocked = blocking_of found.blocked })
 
 -- ---- a finding whose history does not fill the buffer
 module _ (buffer : List ℕ) (room : 128 ≤ length buffer) where
-  finding-is : (r : F.Finding) → ((t : Verdict.Found) → found_of r buffer ≡ some t → SmallFound t) → r ≡ finding_of (found_of r buffer)
-  finding-is Finding.None small = refl
-  finding-is (Finding.Found request n) small = ap (Finding.Found request) (sym (length_taken n buffer (omega (arith, (small _ refl).0))))
+  finding-is : (r : Option Found) → ((t : Verdict.Found) → found_of r buffer ≡ Maybe.some t → SmallFound t) → r ≡ finding_of (found_of r buffer)
+  finding-is None small = refl
+  finding-is (Some found) small = ap (λ (n : ℕ). Some (found_with found.request n)) (sym (length_taken found.length buffer (omega (arith, (small _ refl).0))))
 
-  blocking_is : (r : B.Blocked) → ((h : History) → blocked_of r buffer ≡ some h → length h < 127) → r ≡ blocking_of (blocked_of r buffer)
-  blocking_is Blocked.None small = refl
-  blocking_is (Blocked.After n) small = ap Blocked.After (sym (length_taken n buffer (omega (arith, small _ refl))))
+  blocking_is : (r : Option ℕ) → ((h : History) → blocked_of r buffer ≡ Maybe.some h → length h < 127) → r ≡ blocking_of (blocked_of r buffer)
+  blocking_is None small = refl
+  blocking_is (Some n) small = ap (λ (k : ℕ). Some k) (sym (length_taken n buffer (omega (arith, small _ refl))))
 
 -- ---- x, y and z are the buffers after the call
 module _ (b for_conflict for_missing for_blocked x y z : List ℕ) where
@@ -56,11 +85,11 @@ module _ (b for_conflict for_missing for_blocked x y z : List ℕ) where
         rw (ap (λ (all : Verdict.Buffers). all.for_blocked) e) (no_shorter refusal (history_bytes (Verdict.blocked b)) for_blocked),
       )
 
-  pub judged-is : (r : Judged) → judged_answer r x y z ≡ Verdict.verdict_answer b for_conflict for_missing for_blocked
+  pub judged-is : (r : Result Findings Refusal) → judged_answer r x y z ≡ Verdict.verdict_answer b for_conflict for_missing for_blocked
       → buffers_after x y z ≡ Verdict.verdict_buffers b for_conflict for_missing for_blocked
       → r ≡ judged_of (Verdict.verdict_answer b for_conflict for_missing for_blocked)
-  judged-is (Refused number) e eb = ap judged_of e
-  judged-is (Given found) e eb =
+  judged-is (Err refusal) e eb = ap (λ (x : Refusal). Err x) (refusal-is refusal) ∙ ap judged_of e
+  judged-is (Ok found) e eb =
       let is = given_small b for_conflict for_missing for_blocked _ e in
       let long = buffers_no_shorter eb in
       let conflict = finding-is x (omega (arith, is.0.long_conflict)) found.conflict is.1.of_conflict in

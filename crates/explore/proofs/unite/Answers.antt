@@ -1,20 +1,11 @@
 -- `unite` meets its contract: the sets passed so far are united.
-use Rattle.automaton.proofs.FilledList.{filled_begun, filled_next, filled_turn, filled_done}
-use lib.ListN.{length, get_or, length-set}
+use Rattle.automaton.proofs.FilledList.{filled_next, filled_turn}
+use lib.ListN.{length, get_or}
 use Rattle.definitions.specs.Situation.{union}
 use native.Mathlib.Omega.{arith}
 use Prim.Native.Nat.{ℕ, ◌<◌}
 use mathlib.Core.Path.{ap, ◌∙◌}
 use Rattle.explore.proofs.unite.Goals as goal
-
-pub loop-c-init : goal.loop-c-init
-loop-c-init c = filled_begun _ _
-
-pub bounds-more-c : goal.bounds-more-c
-bounds-more-c c = omega (arith, c.loop-c.invariant.long)
-
-pub loop-c-smaller : goal.loop-c-smaller
-loop-c-smaller c = simp length-set (omega arith)
 
 pub loop-c-preserved : goal.loop-c-preserved
 loop-c-preserved c =
@@ -22,9 +13,3 @@ loop-c-preserved c =
     let a = c.args in
     let room : l.c < length a.next.now = omega (arith, l.invariant.long) in
     filled_turn l.invariant room (c.plus-united.ensures ∙ ap (λ (old : ℕ). union old (get_or a.more.now l.c 0)) (filled_next l.invariant room))
-
-pub shape_of-next : goal.shape_of-next
-shape_of-next c = c.loop-c.invariant.long
-
-pub returns : goal.returns
-returns c = filled_done c.loop-c.invariant (omega (arith, c.loop-c.invariant.long))

@@ -1,27 +1,38 @@
--- `verdict` meets its contract.
+-- `verdict` meets its contract: the rows are judged in their order.
 use mathlib.Core.Path.{sym, ◌∙◌}
 use native.Mathlib.Omega.{arith}
-use Rattle.definitions.proofs.Accepted.{book-passed}
-use Rattle.verdict.proofs.VerdictAnswer.{not_refused, answer_refused, answer-given}
+use Rattle.std.proofs.lemmas.Result.{err_from_is_err_and}
+use Rattle.refusal.specs.Refused.{number_of}
+use Rattle.refusal.proofs.Refused.{some_number}
+use Rattle.verdict.proofs.VerdictAnswer.{short-conflict, short-missing, short-blocked, by-book, answer_refused, answer-given}
 use Rattle.verdict.proofs.verdict.Goals as goal
 
-pub returns-then-number-ne0 : goal.returns-then-number-ne0
-returns-then-number-ne0 c =
-    let all = answer_refused _ _ _ _ _ c.refused_by-number.ensures (λ e. omega (arith, c.if-number-ne0.true)) in
-    record { blocked_after = all.0; blocked_after_2 = all.1 }
+pub returns-then-conflict-lt128 : goal.returns-then-conflict-lt128
+returns-then-conflict-lt128 c =
+    let all = answer_refused _ _ _ _ 1 (short-conflict _ _ _ _ c.if-conflict-lt128.true) (λ e. omega arith) in record { answer = all.0; buffers = all.1 }
 
-pub find_all-requires : goal.find_all-requires
-find_all-requires c =
-    let rows = not_refused _ _ _ _ (sym c.refused_by-number.ensures ∙ c.if-number-ne0.false) in (
-      (book-passed _).0 rows.book,
-      omega (arith, rows.long_conflict, rows.long_missing, rows.long_blocked),
-      omega (arith, rows.long_conflict, rows.long_missing, rows.long_blocked),
-      omega (arith, rows.long_conflict, rows.long_missing, rows.long_blocked),
-    )
+pub returns-then-missing-lt128 : goal.returns-then-missing-lt128
+returns-then-missing-lt128 c =
+    let all = answer_refused _ _ _ _ 1 (short-missing _ _ _ _ c.if-conflict-lt128.false c.if-missing-lt128.true) (λ e. omega arith) in
+    record { answer = all.0; buffers = all.1 }
+
+pub returns-then-blocked-lt128 : goal.returns-then-blocked-lt128
+returns-then-blocked-lt128 c =
+    let all = answer_refused _ _ _ _ 1 (short-blocked _ _ _ _ c.if-conflict-lt128.false c.if-missing-lt128.false c.if-blocked-lt128.true) (λ e. omega arith) in
+    record { answer = all.0; buffers = all.1 }
+
+pub returns-in_err-book : goal.returns-in_err-book
+returns-in_err-book c =
+    let p = err_from_is_err_and c.from_residual.result c.from_residual.ensures.1 in
+    let some = some_number c.in_err-book.field-0.0 in
+    let all = answer_refused _ _ _ _ (number_of c.in_err-book.field-0.0)
+    (c.in_err-book.ensures.refusal ∙ by-book _ _ _ _ c.if-conflict-lt128.false c.if-missing-lt128.false c.if-blocked-lt128.false)
+    (λ e. omega (arith, some, e)) in
+    record { answer = rw (p.1, p.2) all.0; buffers = all.1 }
 
 pub returns : goal.returns
 returns c =
-    let at-if1 = c in
-    let found = c.find_all.ensures in
-    let all = answer-given _ _ _ _ (sym at-if1.refused_by-number.ensures ∙ at-if1.if-number-ne0.false) _ _ _ _ found.blocked_after found.conflict_after found.missing_after found.blocked_after_2 in
-    record { blocked_after = all.0; blocked_after_2 = all.1 }
+    let passes = sym (c.in_ok-book.ensures.refusal ∙ by-book _ _ _ _ c.if-conflict-lt128.false c.if-missing-lt128.false c.if-blocked-lt128.false) in
+    let found = rw c.in_ok-book.ensures.bytes at c.find_all.ensures in
+    let all = answer-given _ _ _ _ passes _ _ _ _ found.answer found.conflict_after found.missing_after found.blocked_after in
+    record { answer = all.0; buffers = all.1 }

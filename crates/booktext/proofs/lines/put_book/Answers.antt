@@ -1,12 +1,8 @@
--- `put_book` meets its contract: the line of the states, and those of the findings.
-use native.Mathlib.Omega.{arith}
-use Rattle.definitions.proofs.Accepted.{book-passed}
+-- `put_book` puts the line of the states, and those of the findings.
 use Rattle.text.proofs.Puts.{then}
-use Rattle.booktext.proofs.FindingLines.{book-put}
+use Rattle.booktext.proofs.FindingLines.{book-is}
 use Rattle.booktext.proofs.lines.put_book.Goals as goal
 
-pub states-requires : goal.states-requires
-states-requires c = ((book-passed _).0 c.requires.0).long
-
-pub returns : goal.returns
-returns c = record { put = book-put c.args.book.now _ c.states.ensures (then c.put_number_line-next.ensures.put c.put_found_on.ensures.put); upper_bound = omega arith }
+pub returns-clause-put : goal.returns-clause-put
+returns-clause-put c =
+    rw (← book-is c.args.book.bytes.now) (then (rw c.states.ensures at c.put_number_line-next.ensures.put) c.put_findings.ensures.put)

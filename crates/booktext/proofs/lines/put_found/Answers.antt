@@ -1,10 +1,9 @@
--- `put_found` meets its contract in both cases.
-use native.Mathlib.Omega.{arith}
+-- `put_found` puts the word, and what is told.
+use Rattle.text.proofs.Puts.{then}
 use Rattle.booktext.proofs.lines.put_found.Goals as goal
 
-pub returns-in-None : goal.returns-in-None
-returns-in-None c = record { put = rw c.in-None.is c.put.ensures; upper_bound = omega arith }
+pub returns-in-None-clause-put : goal.returns-in-None-clause-put
+returns-in-None-clause-put c = rw c.in-None.is (then c.put-next.ensures c.put.ensures)
 
-pub returns-in-Found : goal.returns-in-Found
-returns-in-Found c =
-    record { put = rw c.in-Found.is (rw c.first.ensures.result_value at c.put_request.ensures.put); upper_bound = omega arith }
+pub returns-in-Some-clause-put : goal.returns-in-Some-clause-put
+returns-in-Some-clause-put c = rw c.in-Some.is (then c.put-next.ensures (rw c.first.ensures.result_value at c.put_request.ensures.put))

@@ -1,10 +1,6 @@
-use Prim.Native.Nat.{◌-◌, ◌≤◌}
 use Rattle.findings.specs.Marks.{unmarked_at}
 use Rattle.findings.proofs.LowestBelow.{NoneBelow}
 use Rattle.findings.proofs.finding.first_unmarked.Given as goal
 
 abbrev pub invariant-loop-i : goal.invariant-loop-i
-invariant-loop-i l = (l.i ≤ l.n) × NoneBelow (unmarked_at l.marks l.order) l.i
-
-abbrev pub decreases-loop-i : goal.decreases-loop-i
-decreases-loop-i l = l.n - l.i
+invariant-loop-i l = NoneBelow (unmarked_at l.marks l.search.order) l.i

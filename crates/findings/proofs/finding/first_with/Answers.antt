@@ -1,40 +1,34 @@
 -- `first_with` meets its contract: the states at the places below k have no request that is sought.
 use native.Mathlib.Omega.{arith}
 use borrow.Author.Count.{below_more}
+use Rattle.std.specs.Prelude.{None, Some}
+use Rattle.definitions.specs.Book.{requests}
 use Rattle.definitions.specs.Bytes.{byte}
-use Rattle.findings.specs.SoughtRequests.{some_at}
-use Rattle.findings.proofs.LowestBelow.{lowest_hit, lowest-end}
-use Rattle.findings.proofs.SoughtRequests.{some_sought, none_sought, is_hit, no_hit}
-use borrow.Author.Rules.{rules}
+use Rattle.findings.specs.SoughtRequests.{test_of, some_at, IsLowest}
+use Rattle.findings.proofs.LowestBelow.{lowest_hit, lowest-end, any-lowest}
 use Rattle.findings.proofs.finding.first_with.Goals as goal
 
-pub loop-k-init : goal.loop-k-init
-loop-k-init c = (search rules, λ j l. absurd (omega arith))
-
-pub lowest-request-requires : goal.lowest-request-requires
-lowest-request-requires c =
-    let inside = c.requires.3 c.loop-k.k c.loop-k-test.true in record { book_passed = (c.requires.0, c.requires.1); le_state = omega (arith, c.wide.ensures, inside) }
-
-pub returns-then-request-requests : goal.returns-then-request-requests
-returns-then-request-requests c =
+pub returns-in-Some : goal.returns-in-Some
+returns-in-Some c =
     let a = c.args in
-    let l = c.loop-k in
-    let w = c.wide.ensures.0 in
-    let q = c.requires.1 in
-    let first = some_sought a.sought a.book.now (byte a.order.now l.k) _ _ _ w q c.lowest-request.ensures c.if-request-requests.true in
-    is_hit a.sought a.book.now a.order.now a.n l.k _
-    (lowest_hit (some_at a.sought a.book.now a.order.now) a.n l.k l.invariant.1 c.loop-k-test.true first) _ _ w q c.lowest-request.ensures
+    let b = a.book.bytes.now in
+    let l = c.loop-place in
+    let test = test_of a.sought b (byte a.search.now.order l.place) in
+    let found : IsLowest (requests b) test (Some c.in-Some.request) = rw c.state.ensures at c.in-Some.ensures in
+    record {
+      within = omega (arith, c.count-place-end.ensures);
+      first = lowest_hit (some_at a.sought b a.search.now.order) a.search.now.count l.place l.invariant (omega (arith, c.count-place-end.ensures)) (any-lowest test (requests b) (Some c.in-Some.request) found);
+      lowest = found.1;
+    }
 
-pub loop-k-preserved : goal.loop-k-preserved
-loop-k-preserved c =
+pub loop-place-preserved : goal.loop-place-preserved
+loop-place-preserved c =
     let a = c.args in
-    let l = c.loop-k in
-    let none = none_sought a.sought a.book.now (byte a.order.now l.k) _ _ _ c.wide.ensures.0 c.requires.1 c.lowest-request.ensures c.if-request-requests.false in
-    (search rules, below_more _ _ l.invariant.1 none)
+    let b = a.book.bytes.now in
+    let l = c.loop-place in
+    let test = test_of a.sought b (byte a.search.now.order l.place) in
+    let none : IsLowest (requests b) test None = rw c.state.ensures at c.in_default.ensures in
+    below_more _ _ l.invariant (any-lowest test (requests b) None none)
 
 pub returns : goal.returns
-returns c =
-    let a = c.args in
-    let l = c.loop-k in
-    no_hit a.sought a.book.now a.order.now a.n l.k 0
-    (lowest-end (some_at a.sought a.book.now a.order.now) a.n l.k l.invariant.1 c.loop-k-test.false l.invariant.0) c.loop-k-test.false
+returns c = let a = c.args in let l = c.loop-place in lowest-end (some_at a.sought a.book.bytes.now a.search.now.order) a.search.now.count l.place l.invariant (omega (arith, c.count-place-end.ensures)) (omega (arith, c.count-place-end.ensures))

@@ -1,11 +1,8 @@
 use mathlib.Core.Path.{◌≡◌}
-use Prim.Native.Nat.{◌+◌, ◌-◌}
-use lib.ListN.{length}
-use Rattle.findings.proofs.MarkRounds.{Begun}
+use Prim.Native.Nat.{ℕ, ◌≤◌, ◌<◌}
+use Rattle.definitions.specs.Telling.{some_request, answered}
+use Rattle.findings.specs.Marks.{marked}
 use Rattle.findings.proofs.marks.mark_answering.Given as goal
 
 abbrev pub invariant-loop-s : goal.invariant-loop-s
-invariant-loop-s l = Begun l.book l.marks l.s × (length l.marks ≡ length l.initial.marks)
-
-abbrev pub decreases-loop-s : goal.decreases-loop-s
-decreases-loop-s l = l.n + 1 - l.s
+invariant-loop-s l = (t : ℕ) → 1 ≤ t → t < l.s → marked l.marks t ≡ some_request answered l.book.bytes.now t
