@@ -1,8 +1,7 @@
 -- `put_requests` meets its contract: blanks, and over them the letters of the state's row.
-use mathlib.Core.Path.{◌≡◌, ap, ◌∙◌}
-use Prim.Native.Nat.{◌-◌}
+use mathlib.Core.Path.{ap, ◌∙◌}
 use native.Mathlib.Omega.{arith}
-use lib.ListN.{length, drop}
+use lib.ListN.{drop}
 use Rattle.automaton.proofs.Below.{length-list-below}
 use Rattle.automaton.proofs.Loops.{part_is-drop}
 use Rattle.page.proofs.PageColumns.{put-over, columns_all}
