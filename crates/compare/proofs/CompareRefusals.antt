@@ -3,6 +3,7 @@ use mathlib.Core.Path.{◌≡◌}
 use mathlib.Core.Bool.{Bool, true, false}
 use mathlib.Core.List.{List}
 use Prim.Native.Nat.{ℕ, ◌≤◌, ◌<◌}
+use native.Mathlib.Omega.{arith}
 use lib.Dec.{leb}
 use lib.ListN.{length}
 use borrow.Author.Tests.{le-leb, lt-leb, leb-true, ne_eqb}
@@ -11,11 +12,7 @@ use Rattle.definitions.specs.Answer.{then_judge}
 use Rattle.definitions.specs.Book.{frame}
 use Rattle.definitions.specs.Refusal.{book_refusal, row15}
 use Rattle.definitions.specs.Compare.{compare_refusal}
-use Rattle.automaton.proofs.Below.{same-list-true}
 use Rattle.definitions.proofs.Tests.{judge-zero, then_judge-zero}
-use Rattle.definitions.proofs.Accepted.{book-passed}
-use Rattle.definitions.proofs.Comparisons.{same_width_law}
-use Rattle.comparepairs.specs.PairSearch.{Books}
 
 -- ---- the rows
 module _ (b d buffer : List ℕ) where
@@ -23,24 +20,24 @@ module _ (b d buffer : List ℕ) where
   unfolding compare_refusal
   too_short l = rw (lt-leb 256 (length buffer) l)
 
-  module _ (long : 256 ≤ length buffer) (x : ℕ) (ex : x ≡ book_refusal b) where
-    pub by_first : (x ≡ 0 → ⊥) → x ≡ compare_refusal b d buffer
+  module _ (long : 256 ≤ length buffer) where
+    pub by_first : (x : ℕ) → x ≡ book_refusal b → 1 ≤ x → x ≡ compare_refusal b d buffer
     unfolding compare_refusal
-    by_first n = rw (le-leb 256 (length buffer) long, ← ex, ne_eqb x 0 n)
+    by_first x ex some = rw (le-leb 256 (length buffer) long, ← ex, ne_eqb x 0 (λ e. omega arith))
 
-    module _ (passes : x ≡ 0) (y : ℕ) (ey : y ≡ book_refusal d) where
-      pub by-second : (y ≡ 0 → ⊥) → y ≡ compare_refusal b d buffer
+    module _ (passes : 0 ≡ book_refusal b) where
+      pub by-second : (y : ℕ) → y ≡ book_refusal d → 1 ≤ y → y ≡ compare_refusal b d buffer
       unfolding compare_refusal
-      by-second n = rw (le-leb 256 (length buffer) long, ← ex, passes, ← ey, ne_eqb y 0 n)
+      by-second y ey some = rw (le-leb 256 (length buffer) long, ← passes, ← ey, ne_eqb y 0 (λ e. omega arith))
 
-      module _ (passes' : y ≡ 0) (t : Bool) (et : t ≡ same_list (frame b) (frame d)) where
+      module _ (passes' : 0 ≡ book_refusal d) (t : Bool) (et : t ≡ same_list (frame b) (frame d)) where
         pub by-frame : t ≡ false → 15 ≡ compare_refusal b d buffer
         unfolding compare_refusal row15
-        by-frame e = rw (le-leb 256 (length buffer) long, ← ex, passes, ← ey, passes', ← et, e)
+        by-frame e = rw (le-leb 256 (length buffer) long, ← passes, ← passes', ← et, e)
 
         pub by-none : t ≡ true → 0 ≡ compare_refusal b d buffer
         unfolding compare_refusal row15
-        by-none e = rw (le-leb 256 (length buffer) long, ← ex, passes, ← ey, passes', ← et, e)
+        by-none e = rw (le-leb 256 (length buffer) long, ← passes, ← passes', ← et, e)
 
 -- no row refuses the call
 pub record ComparePassed (b d buffer : List ℕ) : Type 0 where
@@ -60,13 +57,4 @@ compare_passed b d buffer e =
       first = first.0;
       second = second.0;
       frames = ((judge-zero 14 (same_list (frame b) (frame d)) 0).0 second.1).0;
-    }
-
-pub passed-books : (b d buffer : List ℕ) → ComparePassed b d buffer → Books b d
-passed-books b d buffer p =
-    let second = (book-passed d).0 p.second in
-    record {
-      first = (book-passed b).0 p.first;
-      second = second;
-      same_width = same_width_law b d (same-list-true (frame b) (frame d) p.frames) second.layout.header.fields_most;
     }

@@ -1,12 +1,15 @@
--- What each answer of the code says in document 01's terms, with the buffer as the call leaves it.
-use Rattle.std.specs.Prelude.{List, ℕ, take}
-use Rattle.std.proofs.Math.Option.{Option, none, some}
+-- What the answer of the code says in document 01's terms, with the buffer as the call leaves it.
+use Rattle.std.specs.Prelude.{Option, None, Some, Result, List, ℕ, take}
+use Rattle.std.proofs.Math.Option as Maybe
 use Rattle.automaton.specs.History.{History}
-use Rattle.definitions.specs.Answer.{Answer, refused, given}
-use Rattle.compare.specs.declared.Compared.{Compared}
-use Rattle.compare.specs.declared.Compared.TheVariants.{Refused, Same, Differ}
+use Rattle.definitions.specs.Answer.{Answer}
+use Rattle.refusal.specs.declared.Refusal.{Refusal}
+use Rattle.refusal.specs.Refused.{answer_in}
 
-abbrev pub compared_answer : Compared → List ℕ → Answer (Option History)
-compared_answer (Refused number) history = refused number
-compared_answer Same history = given none
-compared_answer (Differ n) history = given (some (take n history))
+-- the history at the front of the buffer, if there is one
+abbrev pub difference_in : List ℕ → Option ℕ → Maybe.Option History
+difference_in history None = Maybe.none
+difference_in history (Some n) = Maybe.some (take n history)
+
+abbrev pub compared_answer : Result (Option ℕ) Refusal → List ℕ → Answer (Maybe.Option History)
+compared_answer result history = answer_in (difference_in history) result

@@ -2,11 +2,15 @@
 use mathlib.Core.Path.{◌≡◌, refl, ap, sym, ◌∙◌}
 use mathlib.Core.Logic.{◌⊎◌, inl, inr}
 use mathlib.Core.List.{List, [], ◌∷◌, ◌++◌}
-use mathlib.Core.Option.{Option, none, some}
+use mathlib.Core.Option.{Option as Maybe, none, some}
 use Prim.Native.Nat.{ℕ, suc, ◌+◌, ◌*◌, ◌≤◌, ◌<◌}
 use native.Mathlib.Numerals.{add-one}
 use native.Mathlib.Omega.{arith}
 use native.Mathlib.Decide.{dec_lt}
+use borrow.Author.Tests.{lt-ltb, le-ltb}
+use lib.Dec.{ltb}
+use Rattle.std.specs.Prelude.{Some, None, MatchOption}
+use Rattle.std.specs.Bool.{then_some}
 use lib.ListN.{length, get_or, length-map}
 use Rattle.automaton.specs.History.{History}
 use Rattle.automaton.specs.Machine.{step}
@@ -17,7 +21,10 @@ use Rattle.automaton.proofs.PairQueue.{search_begun, turn_neither, turn-same, tu
 use Rattle.automaton.proofs.Pair.{difference-is}
 use Rattle.definitions.specs.Book.{width, states, book_machine}
 use Rattle.definitions.specs.Compare.{comparison}
+use Rattle.definitions.specs.Checked.{BookPassed}
 use Rattle.definitions.proofs.BookSteps.{step-inside, has-states}
+use Rattle.book.specs.declared.layout.Book.{Book}
+use Rattle.book.specs.Rows.{row_of}
 use Rattle.search.specs.Trail.{placed, history_at}
 use Rattle.search.proofs.Trails.{placed-length}
 use Rattle.comparelabels.specs.LabelBytes.{label_at, itself, begun_labels, merged, OwnFrom}
@@ -25,11 +32,19 @@ use Rattle.comparelabels.specs.RowLabels.{RowPair, SameLabel}
 use Rattle.comparelabels.specs.FirstFailing.{FirstFailing}
 use Rattle.comparelabels.proofs.FirstFailing.{induction}
 use Rattle.comparelabels.proofs.LabelBytes.{labels-merged, low_label, not_none, merged-own, begun_length, begun_own, begun_merged}
-use Rattle.comparepairs.specs.PairSearch.{Books, BooksReady, PairSearch, left_at, right_at, queue_of, row_of, Both, Spotted, Outcome}
+use Rattle.comparepairs.specs.PairSearch.{BooksReady, PairSearch, left_at, right_at, queue_of, Both, Spotted, Outcome}
 use Rattle.comparepairs.specs.declared.Tried.{Tried}
-use Rattle.comparepairs.specs.declared.Spot.TheVariants.{Nowhere}
 use Rattle.comparepairs.proofs.RowSteps.{row-length, row_step}
 use Rattle.comparepairs.proofs.QueueBytes.{left-put, right-put, pair_added}
+
+-- ---- two books that pass the checks, of one width
+pub record Books (b d : List ℕ) : Type 0 where
+  pub first : BookPassed b
+  pub second : BookPassed d
+  pub same_width : width b ≡ width d
+
+pub books_of : (first second : Book) → width first.bytes.now ≡ width second.bytes.now → Books first.bytes.now second.bytes.now
+books_of first second same_width = record { first = first.passed; second = second.passed; same_width = same_width }
 
 -- ---- the two machines. The number states b + 1 stands for no state, so that the first machine is taken as one with so many states.
 module _ (b d : List ℕ) (B : Books b d) where
@@ -43,35 +58,35 @@ module _ (b d : List ℕ) (B : Books b d) where
   of_second_law = has-states d B.second
 
   -- what answers the comparison is the comparison
-  comparison-is : (o : Option History) → Answers (book_machine b) (book_machine d) o → comparison b d ≡ o
+  comparison-is : (o : Maybe History) → Answers (book_machine b) (book_machine d) o → comparison b d ≡ o
   unfolding comparison
   comparison-is o r =
       difference-is (book_machine b) (book_machine d) (states b) (states d) (has-states b B.first) of_second_law B.same_width 128 16383
       (omega (arith, B.second.layout.header.states_most)) (omega (arith, B.first.layout.header.states_most, B.second.layout.header.states_most)) o r
 
 -- ---- the beginning
-module _ (b d queue label : List ℕ) (R : BooksReady b d queue label) where
+module _ (b d queue label : List ℕ) (books : Books b d) (R : BooksReady b d queue label) where
   pub room_begun : states b + 2 < length label
-  room_begun = omega (arith, R.room_label, R.books.second.layout.header.states_some)
+  room_begun = omega (arith, R.room_label, books.second.layout.header.states_some)
 
   pub begun : (queue' label' : List ℕ) → queue' ≡ placed queue (length label) 1 1 → label' ≡ begun_labels (states b + 1) (length label)
       → PairSearch b d 1 0 0 queue' label'
   begun queue' label' eq el = rw (eq, el) (record {
     ready = record {
-      books = R.books;
+      same_width = R.same_width;
       room_queue = rw (placed-length, long) R.room_queue;
       room_label = rw long R.room_label;
       bytes = rw long R.bytes;
     };
     labels = begun_own (states b + 1) (length label) least room;
-    search = rw long (search_begun (book_machine b) (book_machine d) (states b + 1) (states d) (of_first_law b d R.books) (of_second_law b d R.books)
+    search = rw long (search_begun (book_machine b) (book_machine d) (states b + 1) (states d) (of_first_law b d books) (of_second_law b d books)
         (queue_of (length label) (placed queue (length label) 1 1)) itself (label_at (begun_labels (states b + 1) (length label)))
         (left-put (length label) queue R.room_queue (omega arith) 1 1) (right-put (length label) queue R.room_queue (omega arith) 1 1)
         (λ u a. refl) (begun_merged (states b + 1) (length label) least room (states b + 1 + states d) R.room_label));
   })
     where
       least : 1 < states b + 1
-      least = omega (arith, R.books.first.layout.header.states_some)
+      least = omega (arith, books.first.layout.header.states_some)
 
       room : states b + 1 + 1 < length label
       room = omega (arith, room_begun)
@@ -80,10 +95,7 @@ module _ (b d queue label : List ℕ) (R : BooksReady b d queue label) where
       long = begun_length (states b + 1) (length label) least room
 
 -- ---- the search has come to code c of pair i
-module _ (b d : List ℕ) (m i c : ℕ) (queue label : List ℕ) (S : PairSearch b d m i c queue label) where
-  abbrev books : Books b d
-  books = S.ready.books
-
+module _ (b d : List ℕ) (m i c : ℕ) (queue label : List ℕ) (books : Books b d) (S : PairSearch b d m i c queue label) where
   pub few-pairs : m ≤ states b + states d
   few-pairs = omega (arith, search-few (book_machine b) (book_machine d) (states b + 1) (states d) m i c (queue_of (length label) queue) (label_at label) S.search)
 
@@ -97,7 +109,7 @@ module _ (b d : List ℕ) (m i c : ℕ) (queue label : List ℕ) (S : PairSearch
   }
 
   -- all pairs are
-  pub all_alike : m ≤ i → Spotted b d queue Nowhere
+  pub all_alike : m ≤ i → Spotted b d queue None
   all_alike l = record {
     is = comparison-is b d books none
         (search_alike (book_machine b) (book_machine d) (states b + 1) (states d) m i c (queue_of (length label) queue) (label_at label) S.search l);
@@ -124,6 +136,7 @@ module _ (b d : List ℕ) (m i c : ℕ) (queue label : List ℕ) (S : PairSearch
 
 -- and the rows of that pair are at hand
 pub record Trying (b d : List ℕ) (m i c : ℕ) (one other queue label : List ℕ) : Type 0 where
+  pub books : Books b d
   pub search : PairSearch b d m i c queue label
   pub pair : i < m
   pub of_first : one ≡ row_of b (left_at (length label) queue i)
@@ -137,19 +150,19 @@ module _ (b d : List ℕ) (m i c : ℕ) (one other queue label : List ℕ) (T : 
   q = queue_of (length label) queue
 
   left : Among (states b) (left_at (length label) queue i)
-  left = left_state b d m i c queue label S i T.pair
+  left = left_state b d m i c queue label T.books S i T.pair
 
   right : Among (states d) (right_at (length label) queue i)
-  right = right_state b d m i c queue label S i T.pair
+  right = right_state b d m i c queue label T.books S i T.pair
 
   few : m ≤ states b + states d
-  few = few-pairs b d m i c queue label S
+  few = few-pairs b d m i c queue label T.books S
 
   pub width_one : length one ≡ width b
-  width_one = ap length T.of_first ∙ row-length b S.ready.books.first (left_at (length label) queue i) left.least left.most
+  width_one = ap length T.of_first ∙ row-length b T.books.first (left_at (length label) queue i) left.least left.most
 
   width_other : length other ≡ width b
-  width_other = ap length T.of_second ∙ (row-length d S.ready.books.second (right_at (length label) queue i) right.least right.most ∙ sym S.ready.books.same_width)
+  width_other = ap length T.of_second ∙ (row-length d T.books.second (right_at (length label) queue i) right.least right.most ∙ sym T.books.same_width)
 
   -- what code k leads to
   abbrev x : ℕ → ℕ
@@ -160,18 +173,18 @@ module _ (b d : List ℕ) (m i c : ℕ) (one other queue label : List ℕ) (T : 
 
   module _ (k : ℕ) (l : k < width b) where
     steps-left : step (book_machine b) (left_at (length label) queue i) k ≡ x k
-    steps-left = row_step b S.ready.books.first (left_at (length label) queue i) left.least left.most k l ∙ ap (λ (row : List ℕ). get_or row k 0) (sym T.of_first)
+    steps-left = row_step b T.books.first (left_at (length label) queue i) left.least left.most k l ∙ ap (λ (row : List ℕ). get_or row k 0) (sym T.of_first)
 
     steps-right : step (book_machine d) (right_at (length label) queue i) k ≡ y k
     steps-right =
-        row_step d S.ready.books.second (right_at (length label) queue i) right.least right.most k (omega (arith, S.ready.books.same_width))
+        row_step d T.books.second (right_at (length label) queue i) right.least right.most k (omega (arith, T.books.same_width))
         ∙ ap (λ (row : List ℕ). get_or row k 0) (sym T.of_second)
 
     low-left : x k ≤ states b
-    low-left = omega (arith, step-inside b S.ready.books.first (left_at (length label) queue i) k, steps-left)
+    low-left = omega (arith, step-inside b T.books.first (left_at (length label) queue i) k, steps-left)
 
     low-right : y k ≤ states d
-    low-right = omega (arith, step-inside d S.ready.books.second (right_at (length label) queue i) k, steps-right)
+    low-right = omega (arith, step-inside d T.books.second (right_at (length label) queue i) k, steps-right)
 
   pub rows_read : RowPair one other (label_at label 0) label
   rows_read = rw S.labels.zero (record {
@@ -189,7 +202,7 @@ module _ (b d : List ℕ) (m i c : ℕ) (one other queue label : List ℕ) (T : 
     (rows_read, rw S.labels.zero S.labels),
     (
       B,
-      omega (arith, B.code, width_one, S.ready.books.first.layout.header.width_most),
+      omega (arith, B.code, width_one, T.books.first.layout.header.width_most),
       omega (arith, T.pair, few, S.ready),
       omega (arith, few, S.ready),
       S.ready.room_queue,
@@ -199,6 +212,7 @@ module _ (b d : List ℕ) (m i c : ℕ) (one other queue label : List ℕ) (T : 
   -- code c leads to one label: it is possible in neither book, or in both
   alike_passed : c < width b → SameLabel one other (states b + 1) label c → Trying b d m i (suc c) one other queue label
   alike_passed k e = record {
+    books = T.books;
     search = record { ready = S.ready; labels = S.labels; search = go (dec_lt 0 (x c)) (dec_lt 0 (y c)) };
     pair = T.pair;
     of_first = T.of_first;
@@ -206,8 +220,8 @@ module _ (b d : List ℕ) (m i c : ℕ) (one other queue label : List ℕ) (T : 
   }
     where
       go : Dec (0 < x c) → Dec (0 < y c) → Search (book_machine b) (book_machine d) (states b + 1) (states d) m i (suc c) q (label_at label)
-      go (yes p) (yes r) = turn-same (book_machine b) (book_machine d) (states b + 1) (states d) m i c q (label_at label) S.search (of_first_law b d S.ready.books)
-          (of_second_law b d S.ready.books) T.pair (x c) (y c) (steps-left c k) (steps-right c k) p r e
+      go (yes p) (yes r) = turn-same (book_machine b) (book_machine d) (states b + 1) (states d) m i c q (label_at label) S.search (of_first_law b d T.books)
+          (of_second_law b d T.books) T.pair (x c) (y c) (steps-left c k) (steps-right c k) p r e
       go (yes p) (no r) =
           let none : states b + 1 + y c ≡ states b + 1 = omega arith in
           absurd (omega (arith, low_label (states b + 1) label S.labels (x c) p (omega (arith, low-left c k)) (omega (arith, low-left c k, S.ready.room_label)), rw none at e, S.labels.next))
@@ -236,37 +250,39 @@ module _ (b d : List ℕ) (m i c : ℕ) (one other queue label : List ℕ) (T : 
             absurd (two code (rw (left, right) rows_read.none))
 
     -- the codes are tried
-    pub tried : (t : Tried) → t.pairs ≡ m → t.code ≡ c → (Both one other c → ⊥) → Outcome b d i t queue label
-    tried t em ec n = rw (em, ec) (record {
-      pair = T.pair;
-      found = λ k. record {
-        is = comparison-is b d S.ready.books (some (history_at queue i ++ (c ∷ [])))
-            (search-found (book_machine b) (book_machine d) (states b + 1) (states d) m i c q (label_at label) S.search T.pair (x c) (y c) (steps-left c k) (steps-right c k) (parted k n));
-        writable = record {
-          falls = λ j h. S.search.queue.falls j (omega arith);
-          few = omega (arith, few, S.ready.books.first.layout.header.states_most, S.ready.books.second.layout.header.states_most);
-          room = omega (arith, few, S.ready.room_queue, S.ready.room_label);
-          byte = omega (arith, S.ready.books.first.layout.header.width_most);
-        };
-      };
-      next = λ l. turned_pair b d m i c queue label S (omega arith);
-    })
+    pub tried : (t : Tried) → t.pairs ≡ m → t.code ≡ then_some (ltb c (length one)) c → c ≤ length one → (Both one other c → ⊥) → Outcome b d i t queue label
+    tried t em ec most n = rw (em, ec) (record { pair = T.pair; shows = go (dec_lt c (length one)) })
+      where
+        go : Dec (c < length one) → MatchOption (then_some (ltb c (length one)) c) (PairSearch b d m (i + 1) 0 queue label)
+            (λ code. Spotted b d queue (Some (record { place = i; code = code })))
+        go (no l) = rw (le-ltb c (length one) (omega arith)) (turned_pair b d m i c queue label T.books S (omega (arith, width_one)))
+        go (yes l) = rw (lt-ltb c (length one) l) (let k : c < width b = omega (arith, width_one) in record {
+          is = comparison-is b d T.books (some (history_at queue i ++ (c ∷ [])))
+              (search-found (book_machine b) (book_machine d) (states b + 1) (states d) m i c q (label_at label) S.search T.pair (x c) (y c) (steps-left c k) (steps-right c k) (parted k n));
+          writable = record {
+            falls = λ j h. S.search.queue.falls j (omega arith);
+            few = omega (arith, few, T.books.first.layout.header.states_most, T.books.second.layout.header.states_most);
+            room = omega (arith, few, S.ready.room_queue, S.ready.room_label);
+            byte = omega (arith, T.books.first.layout.header.width_most);
+          };
+        })
 
     -- it leads to two states: their labels are merged, and the pair is queued
     module _ (B : Both one other c) where
       pub added : (queue' label' : List ℕ) → queue' ≡ placed (placed queue m i c) (length label + m) (x c) (y c) → label' ≡ merged label (x c) (label_at label 0 + y c)
           → Trying b d (m + 1) i (c + 1) one other queue' label'
       added queue' label' eq el = rw (eq, el, S.labels.zero) (record {
+        books = T.books;
         search = record {
           ready = record {
-            books = S.ready.books;
+            same_width = S.ready.same_width;
             room_queue = rw (placed-length, placed-length, length-map) S.ready.room_queue;
             room_label = rw length-map S.ready.room_label;
             bytes = rw length-map S.ready.bytes;
           };
           labels = merged-own (states b + 1) label S.labels (states b + 1 + y c) (omega (arith, B.second)) within (x c) B.first (omega (arith, low-left c code));
           search = rw (length-map, add-one m, add-one c) (turn-new (book_machine b) (book_machine d) (states b + 1) (states d) m i c q (label_at label) S.search
-              (of_first_law b d S.ready.books) (of_second_law b d S.ready.books) T.pair (x c) (y c) (steps-left c code) (steps-right c code) B.first B.second
+              (of_first_law b d T.books) (of_second_law b d T.books) T.pair (x c) (y c) (steps-left c code) (steps-right c code) B.first B.second
               (rw S.labels.zero at (two B.code)) (queue_of (length label) (placed (placed queue m i c) (length label + m) (x c) (y c)))
               (label_at (merged label (x c) (states b + 1 + y c))) queued
               (labels-merged (states b + 1 + states d) (x c) (states b + 1 + y c) label S.ready.room_label));

@@ -10,7 +10,7 @@ use Rattle.definitions.specs.Book.{width, states, book_machine}
 use Rattle.definitions.specs.Checked.{BookPassed}
 use Rattle.definitions.proofs.BookSteps.{step-is-entry, step-inside}
 use Rattle.book.proofs.Places.{row_inside}
-use Rattle.comparepairs.specs.PairSearch.{row_of}
+use Rattle.book.specs.Rows.{row_of}
 
 module _ (b : List ℕ) (ok : BookPassed b) (s : ℕ) (some : 1 ≤ s) (most : s ≤ states b) where
   pub row-length : length (row_of b s) ≡ width b

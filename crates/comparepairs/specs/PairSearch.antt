@@ -1,28 +1,20 @@
 -- What the functions of the search over pairs of states rely on and ensure. Of two books b and d state x of b has the number x, state y of d the number
 -- states b + 1 + y; 0 and states b + 1 are no state. There is room for a pair for each number.
-use Rattle.std.specs.Prelude.{◌≡◌, List, [], ◌∷◌, ◌++◌, ℕ, suc, ◌+◌, ◌-◌, ◌*◌, ◌≤◌, ◌<◌, length, get_or, take, drop}
-use Rattle.std.proofs.Math.Option.{Option, none, some}
+use Rattle.std.specs.Prelude.{◌≡◌, List, [], ◌∷◌, ◌++◌, ℕ, suc, ◌+◌, ◌*◌, ◌≤◌, ◌<◌, length, get_or, Option, Some, None, MatchOption}
+use Rattle.std.proofs.Math.Option.{Option as Maybe, none, some}
 use Rattle.automaton.specs.History.{History}
 use Rattle.automaton.specs.Parents.{EarlierParents}
 use Rattle.automaton.specs.PairQueue.{Queue, Search}
 use Rattle.definitions.specs.Book.{width, states, book_machine}
 use Rattle.definitions.specs.Compare.{comparison}
-use Rattle.definitions.specs.Checked.{BookPassed}
 use Rattle.search.specs.Trail.{first_at, second_at, history_at}
 use Rattle.comparelabels.specs.LabelBytes.{label_at, OwnFrom}
 use Rattle.comparepairs.specs.declared.Tried.{Tried}
-use Rattle.comparepairs.specs.declared.Spot.{Spot}
-use Rattle.comparepairs.specs.declared.Spot.TheVariants.{Nowhere, At}
+use Rattle.comparepairs.specs.declared.Difference.{Difference}
 
--- two books that pass the checks, of one width
-pub record Books (b d : List ℕ) : Type 0 where
-  pub first : BookPassed b
-  pub second : BookPassed d
-  pub same_width : width b ≡ width d
-
--- and room for the search
+-- two books of one width, and room for the search
 pub record BooksReady (b d queue label : List ℕ) : Type 0 where
-  pub books : Books b d
+  pub same_width : width b ≡ width d
   pub room_queue : 4 * length label ≤ length queue
   pub room_label : states b + 1 + states d < length label
   pub bytes : length label ≤ 256
@@ -43,10 +35,6 @@ pub record PairSearch (b d : List ℕ) (m i c : ℕ) (queue label : List ℕ) : 
   pub labels : OwnFrom (states b + 1) label
   pub search : Search (book_machine b) (book_machine d) (states b + 1) (states d) m i c (queue_of (length label) queue) (label_at label)
 
--- row s of a book
-abbrev pub row_of : List ℕ → ℕ → List ℕ
-row_of b s = take (width b) (drop (12 + (s - 1) * width b) b)
-
 -- c is a code of both rows
 pub record Both (one other : List ℕ) (c : ℕ) : Type 0 where
   pub code : c < length one
@@ -64,21 +52,20 @@ pub record Traced (i c : ℕ) (trail : List ℕ) : Type 0 where
 abbrev pub difference_at : List ℕ → ℕ → ℕ → History
 difference_at trail i c = history_at trail i ++ (c ∷ [])
 
-abbrev pub spotted : Spot → List ℕ → Option History
-spotted Nowhere trail = none
-spotted (At i c) trail = some (difference_at trail i c)
+abbrev pub spotted : Option Difference → List ℕ → Maybe History
+spotted None trail = none
+spotted (Some d) trail = some (difference_at trail d.place d.code)
 
-abbrev pub Writable : Spot → List ℕ → Type 0
-Writable Nowhere trail = Unit
-Writable (At i c) trail = Traced i c trail
+abbrev pub Writable : Option Difference → List ℕ → Type 0
+Writable None trail = Unit
+Writable (Some d) trail = Traced d.place d.code trail
 
 -- the search is over
-pub record Spotted (b d trail : List ℕ) (spot : Spot) : Type 0 where
+pub record Spotted (b d trail : List ℕ) (spot : Option Difference) : Type 0 where
   pub is : comparison b d ≡ spotted spot trail
   pub writable : Writable spot trail
 
 -- the codes of pair i are tried
 pub record Outcome (b d : List ℕ) (i : ℕ) (tried : Tried) (queue label : List ℕ) : Type 0 where
   pub pair : i < tried.pairs
-  pub found : tried.code < width b → Spotted b d queue (At i tried.code)
-  pub next : (tried.code < width b → ⊥) → PairSearch b d tried.pairs (i + 1) 0 queue label
+  pub shows : MatchOption tried.code (PairSearch b d tried.pairs (i + 1) 0 queue label) (λ c. Spotted b d queue (Some (record { place = i; code = c })))

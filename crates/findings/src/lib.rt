@@ -35,7 +35,7 @@ pub fn find_all(book: Book, conflict: &mut [u8], missing: &mut [u8], blocked: &m
     ensures blocked_after { blocked.new ≡ written (history_bytes (Verdict.blocked book.entry.bytes.now)) blocked.old }
 {
     let mut search = Search::<128, 256>::new();
-    search.explore_book(book.bytes, book.width);
+    search.explore_book(book);
     let first = find(book, &search, Sought::Conflict, conflict);
     let second = find(book, &search, Sought::Missing, missing);
     let third = find_blocked(book, &search, second, blocked);

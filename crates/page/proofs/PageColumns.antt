@@ -1,64 +1,29 @@
 -- The columns of a line, put one after another.
 use mathlib.Core.Path.{◌≡◌, refl, sym, ap, ◌∙◌}
 use mathlib.Core.List.{List, [], ◌∷◌, ◌++◌, append_assoc, append-nil}
-use Prim.Native.Nat.{ℕ, zero, suc, ◌+◌, ◌-◌, ◌*◌, ◌/◌, ◌≤◌, ◌<◌}
-use native.Mathlib.Nat.{add-zero, add-suc, add_assoc}
+use Prim.Native.Nat.{ℕ, zero, suc, ◌+◌, ◌-◌, ◌*◌, ◌≤◌, ◌<◌}
+use native.Mathlib.Nat.{add-zero, add-suc}
 use native.Mathlib.Numerals.{add-one}
 use native.Mathlib.Omega.{arith}
-use lib.ListN.{length, get_or, drop, set, replicate, length-append, length-replicate, replicate-append-replicate}
+use lib.ListN.{length, take, drop, set, replicate, length-append, length-drop, length-replicate, replicate-append-replicate}
+use Rattle.std.proofs.lemmas.List.{length-take, get_or-take}
+use borrow.Rule.Slice.PartMut.{put_mid}
 use lib.Seq.{sets, get_or-drop, drop_at, set_comm, set-set}
 use borrow.Author.Tests.{lt-ltb, le-ltb}
 use Rattle.automaton.specs.Below.{list_below}
 use Rattle.automaton.specs.Machine.{step}
-use Rattle.automaton.proofs.Machine.{is_state_law}
 use Rattle.automaton.proofs.Congruence.{list-below-same}
 use Rattle.definitions.specs.Bytes.{byte}
 use Rattle.definitions.specs.Codes.{accept_code, reject_code}
 use Rattle.definitions.specs.Book.{events, requests, width, entry, book_machine}
 use Rattle.definitions.proofs.BookSteps.{step-is-entry}
-use Rattle.definitions.specs.Decimal.{digit, decimal}
 use Rattle.definitions.specs.Characters.{blank, newline}
-use Rattle.definitions.specs.Page.{three_columns, dashes, request_column}
+use Rattle.definitions.specs.Page.{three_columns, request_column}
 use Rattle.definitions.specs.Telling.{telling}
+use Rattle.book.specs.Rows.{row_of}
 use Rattle.text.specs.Put.{Put}
-use Rattle.text.proofs.Puts.{then, byte_put}
-use Rattle.page.specs.LineColumns.{depth_columns, letter_by, letter_in, line_of}
-
--- ---- a number after as many blanks as it leaves
-module _ {before middle after : List ℕ} {at next end : ℕ} (n : ℕ) where
-  pub columns_of_one : n < 10 → Put before at (blank ∷ blank ∷ []) middle next → Put middle next (digit n ∷ []) after end → Put before at (three_columns n) after end
-  columns_of_one l p q = rw (lt-ltb n 10 l) (then p q)
-
-  pub columns_of_two : 10 ≤ n → n < 100 → Put before at (blank ∷ []) middle next → Put middle next (digit (n / 10) ∷ digit n ∷ []) after end
-      → Put before at (three_columns n) after end
-  columns_of_two l m p q = rw (le-ltb n 10 l, lt-ltb n 100 m) (then p q)
-
-pub columns_of_three : {before after : List ℕ} {at end : ℕ} (n : ℕ) → 100 ≤ n → Put before at (decimal n) after end → Put before at (three_columns n) after end
-columns_of_three n l q =
-    let m : 10 ≤ n = omega arith in
-    rw (le-ltb n 10 m, le-ltb n 100 l) (rw (le-ltb n 10 m, le-ltb n 100 l) at q)
-
--- ---- a length by its depth
-pub depth_none : (depth : ℕ) → depth ≡ 0 → depth_columns depth ≡ dashes
-depth_none depth e = rw e
-
-pub depth_some : (depth : ℕ) → (depth ≡ 0 → ⊥) → depth_columns depth ≡ three_columns (depth - 1)
-depth_some zero n = absurd (n refl)
-depth_some (suc k) n = let e : suc k - 1 ≡ k = omega arith in rw e
-
--- ---- a letter by its two entries
-module _ (accept reject : ℕ) where
-  pub letter-none : accept ≡ 0 → reject ≡ 0 → letter_by accept reject ≡ 46
-  letter-none a r = rw (a, r)
-
-  pub letter_reject : accept ≡ 0 → (reject ≡ 0 → ⊥) → letter_by accept reject ≡ 82
-  letter_reject a r = rw (a, is_state_law reject (omega arith))
-
-  pub letter_accept : (accept ≡ 0 → ⊥) → reject ≡ 0 → letter_by accept reject ≡ 65
-  letter_accept a r = rw (is_state_law accept (omega arith), r)
-
-  pub letter-both : (accept ≡ 0 → ⊥) → (reject ≡ 0 → ⊥) → letter_by accept reject ≡ 66
-  letter-both a r = rw (is_state_law accept (omega arith), is_state_law reject (omega arith))
+use Rattle.text.proofs.Puts.{then, byte_put, copied}
+use Rattle.page.specs.LineColumns.{depth_columns, letter_in, line_of}
 
 -- ---- one column more
 module _ (f : ℕ → ℕ) where
@@ -80,12 +45,13 @@ module _ (f : ℕ → ℕ) where
       ∙ ap (λ (x : ℕ). list_below (q + k) f ++ (x ∷ [])) (sym (past (q + k) (omega arith)))
       ∙ ap (λ (n : ℕ). list_below n f) (sym (add-suc q k))
 
--- one blank more
-pub blank_turn : (before : List ℕ) (at : ℕ) {out : List ℕ} (i : ℕ) → Put before at (replicate i blank) out (at + i)
-    → Put before at (replicate (i + 1) blank) (set out (at + i) blank) (at + (i + 1))
-blank_turn before at {out} i p =
-    let place : at + (i + 1) ≡ (at + i) + 1 = omega arith in
-    rw (← replicate-append-replicate i 1 blank, place) (then p (byte_put out (at + i) blank))
+-- ---- blanks that a part of the line is filled with
+pub blanks_put : (before part : List ℕ) (at n : ℕ) → at + n ≤ length before → part ≡ replicate (length (take (at + n - at) (drop at before))) blank
+    → Put before at (replicate n blank) (put_mid at (at + n - at) before part) (at + n)
+blanks_put before part at n room e =
+    let size : length (take (at + n - at) (drop at before)) ≡ n = omega (arith, length-take (at + n - at) (drop at before), length-drop at before) in
+    let long = length-replicate n blank in
+    rw long at (copied before (replicate n blank) part at (rw size at e) (omega (arith, long)))
 
 -- ---- what is put over a text that is no shorter
 set-sets : (ys l : List ℕ) (i j x : ℕ) → i < j → set (sets l j ys) i x ≡ sets (set l i x) j ys
@@ -117,31 +83,28 @@ put-over {before} {middle} {after} {xs} {at} n q under over e l =
 
 -- ---- the columns of the requests
 module _ (b : List ℕ) (s : ℕ) where
-  request-entry : (k : ℕ) → byte (drop (12 + (s - 1) * width b + events b) b) k ≡ entry b s (events b + k)
-  request-entry k =
-      get_or-drop (12 + (s - 1) * width b + events b) b k 0 ∙ ap (λ (n : ℕ). get_or b n 0) (add_assoc (12 + (s - 1) * width b) (events b) k)
-      ∙ sym (get_or-drop (12 + (s - 1) * width b) b (events b + k) 0)
+  request-entry : (k : ℕ) → events b + k < width b → byte (drop (events b) (row_of b s)) k ≡ entry b s (events b + k)
+  request-entry k l = get_or-drop (events b) (row_of b s) k 0 ∙ rw get_or-take
 
   -- the letters of a row are those of its state
-  pub letter-column : (row : List ℕ) → row ≡ drop (12 + (s - 1) * width b + events b) b → 1 ≤ s → (r : ℕ) → r < requests b → letter_in row r ≡ request_column b s r
+  pub letter-column : 1 ≤ s → (r : ℕ) → r < requests b → letter_in (drop (events b) (row_of b s)) r ≡ request_column b s r
   unfolding telling
-  letter-column row e some-state r l =
+  letter-column some-state r l =
+      let row = drop (events b) (row_of b s) in
       let next : events b + (2 * r + 1) ≡ reject_code (events b) r = omega arith in
       let accept : byte row (2 * r) ≡ step (book_machine b) s (accept_code (events b) r) =
-      ap (λ (l : List ℕ). byte l (2 * r)) e ∙ request-entry (2 * r) ∙ sym (step-is-entry b s (accept_code (events b) r) some-state (omega arith)) in
+      request-entry (2 * r) (omega arith) ∙ sym (step-is-entry b s (accept_code (events b) r) some-state (omega arith)) in
       let reject : byte row (2 * r + 1) ≡ step (book_machine b) s (reject_code (events b) r) =
-      ap (λ (l : List ℕ). byte l (2 * r + 1)) e ∙ request-entry (2 * r + 1) ∙ ap (entry b s) next
-      ∙ sym (step-is-entry b s (reject_code (events b) r) some-state (omega arith)) in
+      request-entry (2 * r + 1) (omega arith) ∙ ap (entry b s) next ∙ sym (step-is-entry b s (reject_code (events b) r) some-state (omega arith)) in
       rw (lt-ltb r (requests b) l, accept, reject)
 
   -- letters, and blanks beyond Q
-  pub columns_all : (row : List ℕ) (w e : ℕ) → row ≡ drop (12 + (s - 1) * w + e) b → w ≡ width b → e ≡ events b → 1 ≤ s → (q : ℕ) → q ≡ requests b → q ≤ 64
+  pub columns_all : (row : List ℕ) → row ≡ drop (events b) (row_of b s) → 1 ≤ s → (q : ℕ) → q ≡ requests b → q ≤ 64
       → list_below q (letter_in row) ++ replicate (64 - q) blank ≡ list_below 64 (request_column b s)
-  columns_all row w e from ew ee some-state q count l =
+  columns_all row e some-state q count l =
       let whole : q + (64 - q) ≡ 64 = omega arith in
-      let part : row ≡ drop (12 + (s - 1) * width b + events b) b = from ∙ rw (ew, ee) in
       ap (λ (x : List ℕ). x ++ replicate (64 - q) blank)
-      (list-below-same (letter_in row) (request_column b s) q (λ r m. letter-column row part some-state r (omega arith)))
+      (list-below-same (letter_in row) (request_column b s) q (λ r m. ap (λ (x : List ℕ). letter_in x r) e ∙ letter-column some-state r (omega arith)))
       ∙ columns_blank (request_column b s) q (64 - q) (λ r m. rw (le-ltb r (requests b) (omega arith))) ∙ ap (λ (n : ℕ). list_below n (request_column b s)) whole
 
 -- the parts of a line, put one after another

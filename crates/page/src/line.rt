@@ -2,14 +2,13 @@
 ghost use Rattle.std.specs.Prelude.{◌≡◌, [], ◌∷◌, ◌++◌, ◌+◌, ◌*◌, ◌≤◌, length, replicate};
 ghost use Rattle.automaton.specs.Below.{list_below};
 ghost use Rattle.definitions.specs.Answer.{written};
-ghost use Rattle.definitions.specs.Book as Book;
-ghost use Rattle.definitions.specs.Checked.{BookPassed};
+ghost use Rattle.definitions.specs.Book as B;
 ghost use Rattle.definitions.specs.Page.{three_columns, request_column};
 ghost use Rattle.definitions.specs.Characters.{blank};
 ghost use Rattle.text.specs.Put.{Put};
 ghost use Rattle.page.specs.LineColumns.{depth_columns, letter_by, letter_in, line_of};
 
-use book::events;
+use book::Book;
 use text::{put, put_byte, put_decimal, put_digit, put_two_digits};
 
 // A number below 1,000 in three columns, to the right.
@@ -68,12 +67,10 @@ fn put_letters(line: &mut [u8], at: usize, row: &[u8], requests: usize) -> usize
     ensures put { Put line.old at (list_below requests (letter_in row.now)) line.new result }
     ensures value { result ≡ at + requests }
 {
-    let mut r = 0;
-    while r < requests {
+    for r in 0..requests {
         line[at + r] = letter(row[2 * r], row[2 * r + 1]);
-        r += 1;
     }
-    at + r
+    at + requests
 }
 
 // So many blanks.
@@ -82,48 +79,32 @@ fn put_blanks(line: &mut [u8], at: usize, n: usize) -> usize
     ensures put { Put line.old at (replicate n blank) line.new result }
     ensures value { result ≡ at + n }
 {
-    let mut i = 0;
-    while i < n {
-        line[at + i] = b' ';
-        i += 1;
-    }
-    at + i
+    let end = at + n;
+    line[at..end].fill(b' ');
+    end
 }
 
 // The 64 columns of the requests: a letter for each, and blanks beyond them. All are blank first, since a fixed number of blanks takes no loop.
-fn put_requests(
-    line: &mut [u8],
-    at: usize,
-    book: &[u8],
-    width: usize,
-    requests: usize,
-    state: usize,
-) -> usize
-    requires book_passed { BookPassed book.now × (width ≡ Book.width book.now) × (requests ≡ Book.requests book.now) }
-    requires le_state { (1 ≤ state) × (state ≤ Book.states book.now) × (at + 64 ≤ length line.old) }
-    ensures put { Put line.old at (list_below 64 (request_column book.now state)) line.new result }
+fn put_requests(line: &mut [u8], at: usize, book: Book, state: usize) -> usize
+    requires state_is { (1 ≤ state) × (state ≤ B.states book.bytes.now) }
+    requires room { at + 64 ≤ length line.old }
+    ensures put { Put line.old at (list_below 64 (request_column book.entry.bytes.now state)) line.new result }
     ensures value { result ≡ at + 64 }
 {
-    let from = 12 + (state - 1) * width + events(book);
     let end = put_blanks(line, at, 64);
-    put_letters(line, at, &book[from..], requests);
+    let row = book.row(state);
+    let first = book.events();
+    put_letters(line, at, &row[first..], book.requests);
     end
 }
 
 // The line of a state at the front of the buffer. The bytes after it are unchanged.
-pub fn write_line(
-    line: &mut [u8],
-    book: &[u8],
-    width: usize,
-    requests: usize,
-    state: usize,
-    depth: usize,
-)
-    requires book_passed { BookPassed book.now × (width ≡ Book.width book.now) × (requests ≡ Book.requests book.now) }
-    requires le_state { (1 ≤ state) × (state ≤ Book.states book.now) × (73 ≤ length line.old) }
-    ensures { line.new ≡ written (line_of book.now state depth) line.old }
+pub fn write_line(line: &mut [u8], book: Book, state: usize, depth: usize)
+    requires state_is { (1 ≤ state) × (state ≤ B.states book.bytes.now) }
+    requires room { 73 ≤ length line.old }
+    ensures { line.new ≡ written (line_of book.entry.bytes.now state depth) line.old }
 {
     let head = put_head(line, state, depth);
-    let end = put_requests(line, head, book, width, requests, state);
+    let end = put_requests(line, head, book, state);
     put_byte(line, end, b'\n');
 }

@@ -3,20 +3,23 @@ use mathlib.Core.Path.{◌≡◌, sym, ◌∙◌}
 use mathlib.Core.List.{List}
 use Prim.Native.Nat.{ℕ, ◌+◌, ◌≤◌, ◌<◌}
 use native.Mathlib.Numerals.{add-one}
+use native.Mathlib.Omega.{arith}
 use lib.ListN.{length}
-use borrow.Author.Tests.{eq-eqb, ne_eqb}
+use borrow.Author.Tests.{ne_eqb}
+use Rattle.std.specs.Prelude.{Result, Ok, Err, IfOk}
 use Rattle.definitions.specs.Answer.{Answer}
 use Rattle.definitions.specs.Book.{fields, requests}
 use Rattle.definitions.specs.Telling.{Telling}
 use Rattle.definitions.specs.Opened.{tell_answer}
-use Rattle.definitions.specs.Shelf.{line, refused_word}
-use Rattle.definitions.specs.Decimal.{decimal}
 use Rattle.definitions.specs.Checked.{BookPassed}
 use Rattle.definitions.proofs.Accepted.{book-passed}
 use Rattle.text.specs.Put.{Put}
 use Rattle.text.proofs.Puts.{then}
+use Rattle.refusal.specs.declared.Refusal.{Refusal}
+use Rattle.refusal.specs.Refused.{number_of, refusal_in}
+use Rattle.refusal.proofs.Refused.{some_number}
 use Rattle.walk.proofs.CallCases.{tell-inside}
-use Rattle.play.specs.StateLines.{Stands, telling_text, tellings_text, state_line, answer_line}
+use Rattle.play.specs.StateLines.{Stands, telling_text, tellings_text, answer_line, result_line}
 
 module _ (b : List ℕ) (s : ℕ) (stands : Stands b s) where
   book : BookPassed b
@@ -33,10 +36,11 @@ module _ (b : List ℕ) (s : ℕ) (stands : Stands b s) where
       → Put out next (telling_text told) after end → Put before at (tellings_text b s (k + 1)) after end
   tellings_turn k told l e p q = rw (add-one k) (then p (rw (e ∙ sym (tell-inside b s k stands.passes stands.holds l)) at q))
 
--- the line by the number that a call answered
-module _ (b : List ℕ) (number s : ℕ) {before after : List ℕ} {at next : ℕ} where
-  pub refused_line : (number ≡ 0 → ⊥) → Put before at (line refused_word (decimal number)) after next → Put before at (answer_line b number s) after next
-  refused_line f p = rw (ne_eqb number 0 f) p
+-- a refusal's number is not 0
+pub never_0 : (refusal : Refusal) → number_of refusal ≡ 0 → ⊥
+never_0 refusal z = omega (arith, some_number refusal)
 
-  pub state_line_law : number ≡ 0 → Put before at (state_line b s) after next → Put before at (answer_line b number s) after next
-  state_line_law z p = rw (eq-eqb number 0 z) p
+-- the line by the number that a call answers, and by the state where it answers one
+pub line_of : (b : List ℕ) (r : Result ℕ Refusal) (number state : ℕ) → refusal_in r ≡ number → IfOk r (λ there. there ≡ state) → result_line b r ≡ answer_line b number state
+line_of b (Ok there) number state e is = rw (← e, is)
+line_of b (Err refusal) number state e is = rw (← e, ne_eqb (number_of refusal) 0 (never_0 refusal))

@@ -1,5 +1,5 @@
 -- The line that `play` writes after the opening and after each step.
-use Rattle.std.specs.Prelude.{◌≡◌, cond, true, List, [], ◌∷◌, ◌++◌, ℕ, zero, suc, eqb}
+use Rattle.std.specs.Prelude.{◌≡◌, cond, true, List, [], ◌∷◌, ◌++◌, ℕ, zero, suc, eqb, Result, Ok, Err}
 use Rattle.definitions.specs.Answer.{Answer, refused, given}
 use Rattle.definitions.specs.Book.{requests}
 use Rattle.definitions.specs.Refusal.{book_refusal}
@@ -8,6 +8,8 @@ use Rattle.definitions.specs.Opened.{state_holds}
 use Rattle.definitions.specs.Characters.{blank, newline}
 use Rattle.definitions.specs.Shelf.{line, refused_word}
 use Rattle.definitions.specs.Decimal.{decimal}
+use Rattle.refusal.specs.declared.Refusal.{Refusal}
+use Rattle.refusal.specs.Refused.{number_of}
 
 -- "none", "accept", "reject", "both"
 abbrev pub telling_word : Telling → List ℕ
@@ -36,6 +38,11 @@ answer_line b number state =
     let right = state_line b state in
     let wrong = line refused_word (decimal number) in
     cond (eqb number 0) right wrong
+
+-- the same by the result of the call: the state that the book is at, or the refusal
+abbrev pub result_line : List ℕ → Result ℕ Refusal → List ℕ
+result_line b (Ok state) = state_line b state
+result_line b (Err refusal) = line refused_word (decimal (number_of refusal))
 
 -- a book that the checks pass, at one of its states
 pub record Stands (b : List ℕ) (s : ℕ) : Type 0 where

@@ -24,8 +24,5 @@ pub fn play(input: &[u8], out: &mut [u8]) -> usize
 fn without(s: &[u8], n: usize) -> &[u8]
     ensures { result.now ≡ drop n s.now }
 {
-    if n < s.len() {
-        return &s[n..];
-    }
-    &s[s.len()..]
+    &s[n.min(s.len())..]
 }

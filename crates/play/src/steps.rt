@@ -5,19 +5,18 @@ ghost use Rattle.play.specs.StateLines.{Stands};
 ghost use Rattle.play.specs.Play.{step_lines, play_lines};
 
 use crate::lines::put_answer;
-use automaton::wide;
 
 // The lines after the opening and after each step, each of at most 512 bytes; none for the steps where the opening was refused.
 pub fn put_play(book: &[u8], codes: &[u8], out: &mut [u8]) -> usize
     requires { 512 * (length codes.now + 1) ≤ length out.old }
     ensures { Put out.old 0 (play_lines book.now codes.now) out.new result × (result ≤ 512 * (length codes.now + 1)) }
 {
-    let start = walk::open(book);
-    let at = put_answer(out, 0, start.number, book, start.state);
-    if start.number != 0 {
-        return at;
+    let opened = walk::open(book);
+    let at = put_answer(out, 0, book, opened);
+    match opened {
+        Ok(start) => put_steps(book, start, codes, out, at),
+        Err(_) => at,
     }
-    put_steps(book, start.state, codes, out, at)
 }
 
 // The lines of the steps from a state of the book.
@@ -27,12 +26,10 @@ fn put_steps(book: &[u8], start: usize, codes: &[u8], out: &mut [u8], at: usize)
 {
     let mut state = start;
     let mut next = at;
-    let mut i = 0;
-    while i < codes.len() {
-        let stepped = walk::step(book, state, wide(codes[i]));
-        next = put_answer(out, next, stepped.number, book, stepped.state);
-        state = stepped.state;
-        i += 1;
+    for &code in codes {
+        let stepped = walk::step(book, state, usize::from(code));
+        next = put_answer(out, next, book, stepped);
+        state = stepped.unwrap_or(state);
     }
     next
 }

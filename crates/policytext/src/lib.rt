@@ -2,37 +2,28 @@
 #![tactic(auto)]
 
 ghost use Rattle.std.specs.Prelude.{◌≡◌, ◌≤◌, length};
-ghost use Rattle.build.specs.BuiltAnswer.{built_answer};
 ghost use Rattle.text.specs.Put.{Put};
 ghost use Rattle.text.specs.Room.{length_within, written_within};
 ghost use Rattle.booktext.specs.Forms.{text_of, room_of};
-ghost use Rattle.policytext.specs.PolicyText.{refusal_or, built_text, BuiltPasses};
+ghost use Rattle.policytext.specs.PolicyText.{refusal_or};
 
-use booktext::{Form, put_text, room};
-use build::{Built, build};
+use book::Book;
+use booktext::{Form, put_text};
+use build::build;
 use text::{first, put_number_line};
 
-// The text for what build answers, with the buffer that holds the book.
-fn put_built(out: &mut [u8], form: Form, built: Built, book: &[u8]) -> usize
-    requires { BuiltPasses (built_answer built) book.now × (length book.now ≤ 17284) × (room_of form ≤ length out.old) }
-    ensures put { Put out.old 0 (built_text (text_of form) (built_answer built) book.now) out.new result }
-    ensures upper_bound { result ≤ room_of form }
-{
-    match built {
-        Built::Refused(number) => put_number_line(out, 0, b"refused ", number),
-        Built::Written(length) => put_text(out, form, first(book, length)),
-    }
-}
-
 // The text for a policy.
+#[tactic(auto, using(booktext::proofs::Forms::enough))]
 fn put_policy(out: &mut [u8], form: Form, policy: &[u8]) -> usize
     requires { room_of form ≤ length out.old }
     ensures put { Put out.old 0 (refusal_or (text_of form) policy.now) out.new result }
     ensures upper_bound { result ≤ room_of form }
 {
     let mut book = [0u8; 17284];
-    let built = build(policy, &mut book);
-    put_built(out, form, built, &book)
+    match build(policy, &mut book) {
+        Err(refusal) => put_number_line(out, 0, b"refused ", usize::from(refusal.number())),
+        Ok(length) => put_text(out, form, Book::new(first(&book, length))),
+    }
 }
 
 // The text for a policy at the front of the buffer, and the text's length. The bytes after the text are unchanged. Where the buffer has less room than every such
@@ -42,7 +33,7 @@ pub fn policy_text(policy: &[u8], form: Form, out: &mut [u8]) -> usize
     ensures out_after { out.new ≡ written_within (room_of form) (refusal_or (text_of form) policy.now) out.old }
     ensures upper_bound { result ≤ length out.old }
 {
-    if out.len() < room(form) {
+    if out.len() < form.room() {
         return 0;
     }
     put_policy(out, form, policy)

@@ -5,6 +5,7 @@ ghost use Rattle.search.specs.Trail.{first_at};
 ghost use Rattle.search.specs.Found.{Numbered};
 
 use crate::trail;
+use book::Book;
 
 // The states found stand one after another in `order`, and the histories that found them in `trail`, which has two bytes a place, so that M is twice N: a parameter
 // of its own, since an array's length is no sum or product of parameters.
@@ -26,8 +27,7 @@ pub struct Search<const N: usize, const M: usize> {
 impl<const N: usize, const M: usize> Search<N, M> {
     ghost use Rattle.automaton.specs.Explore.{add};
     ghost use Rattle.definitions.specs.Answer.{written};
-    ghost use Rattle.definitions.specs.Book as Book;
-    ghost use Rattle.definitions.specs.Checked.{BookPassed};
+    ghost use Rattle.definitions.specs.Book as B;
     ghost use Rattle.search.specs.Found.{SmallTable, started, states_of, book_states};
     ghost use Rattle.search.specs.Searched.{found_by, state_of, history_of, visited_at, CanVisit};
 
@@ -124,13 +124,13 @@ impl<const N: usize, const M: usize> Search<N, M> {
         }
     }
 
-    // The same for a book that passes the checks.
-    pub fn explore_book(&mut self, book: &[u8], width: usize)
-        requires book_passed { BookPassed book.now × (width ≡ Book.width book.now) × (Book.states book.now < N) }
+    // The same for a book.
+    pub fn explore_book(&mut self, book: Book)
+        requires room { B.states book.bytes.now < N }
         requires begun { found_by self.old ≡ started }
-        ensures { found_by self.new ≡ book_states book.now }
+        ensures { found_by self.new ≡ book_states book.entry.bytes.now }
     {
-        self.explore(&book[12..], width);
+        self.explore(&book.bytes[12..], book.width);
     }
 
     // Writes the codes that lead to a place, of which there are n, to the front of the buffer. The bytes after them are unchanged.

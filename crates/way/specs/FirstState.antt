@@ -1,61 +1,62 @@
 -- The search for the first state that is a goal: what a visit leaves that ends where such a state is found, what the search leaves, and what is shown then.
-use Rattle.std.specs.Prelude.{◌≡◌, Bool, true, false, cond, List, ℕ, suc, ◌≤◌, ◌<◌, ltb, length, drop}
+use Rattle.std.specs.Prelude.{◌≡◌, Bool, true, false, cond, List, ℕ, suc, ◌≤◌, ◌<◌, ltb, length, drop, Option, MatchOption}
 use Rattle.std.proofs.Math.Option.{none, some}
 use Rattle.automaton.specs.Explore.{visit, first_that}
-use Rattle.automaton.specs.Parents.{EarlierParents}
-use Rattle.definitions.specs.Answer.{given, written, history_bytes}
-use Rattle.definitions.specs.Bytes.{byte}
+use Rattle.definitions.specs.Answer.{written, history_bytes}
 use Rattle.definitions.specs.Book.{width, requests, states}
-use Rattle.definitions.specs.Checked.{BookPassed}
+use Rattle.definitions.specs.Telling.{outcome_of}
 use Rattle.definitions.specs.Verdict.{states_reached}
 use Rattle.definitions.specs.Way.{has_outcome, way}
-use Rattle.search.specs.Trail.{first_at, history_at}
-use Rattle.search.specs.Found.{rows_machine, reached_at, found_in, Arrays}
-use Rattle.way.specs.ShownAnswer.{shown_answer}
+use Rattle.book.specs.Tellings.{telling_of}
+use Rattle.search.specs.declared.breadth_first.Search.{Search}
+use Rattle.search.specs.Found.{rows_machine}
+use Rattle.search.specs.Searched.{found_by, reached_by, state_of, history_of}
+use Rattle.way.specs.ShownAnswer.{history_shown}
 use Rattle.way.specs.declared.goal.Goal.{Goal}
-use Rattle.way.specs.declared.first.Shown.{Shown}
 
 -- the rows of a book
 abbrev pub rows_of : List ℕ → List ℕ
 rows_of b = drop 12 b
 
 -- a goal of a search in a book
-pub record GoalIn (b : List ℕ) (g : Goal) : Type 0 where
-  pub passed : BookPassed b
-  pub wide : g.width ≡ width b
-  pub below : g.request < requests b
+abbrev pub GoalIn : List ℕ → Goal → Type 0
+GoalIn b g = g.request < requests b
+
+-- the number of its outcome
+abbrev pub sought : Goal → ℕ
+sought g = outcome_of (telling_of g.outcome)
 
 -- a state is a goal
 abbrev pub is_goal : List ℕ → Goal → ℕ → Bool
-is_goal b g s = has_outcome b g.request g.outcome s
+is_goal b g s = has_outcome b g.request (sought g) s
 
--- none of the states at the first n places is one
-abbrev pub NoneBelow : List ℕ → Goal → List ℕ → ℕ → Type 0
-NoneBelow b g order n = (k : ℕ) → k < n → is_goal b g (byte order k) ≡ false
+-- none of the states found is one
+abbrev pub NoneFound : {N M : ℕ} → List ℕ → Goal → Search N M → Type 0
+NoneFound b g s = (k : ℕ) → k < s.count → is_goal b g (state_of s k) ≡ false
 
--- the first at these places that is one is the last of them
-pub record OnlyLast (b : List ℕ) (g : Goal) (order : List ℕ) (n : ℕ) : Type 0 where
+-- the first state found that is one is the last of all
+pub record OnlyLast {N M : ℕ} (b : List ℕ) (g : Goal) (s : Search N M) : Type 0 where
   pub last : ℕ
-  pub is : n ≡ suc last
-  pub has : is_goal b g (byte order last) ≡ true
-  pub before : NoneBelow b g order last
+  pub is : s.count ≡ suc last
+  pub has : is_goal b g (state_of s last) ≡ true
+  pub before : (k : ℕ) → k < last → is_goal b g (state_of s k) ≡ false
 
--- the codes below some code have been tried from the state at place i of n, and k states are found: all codes, and no state is a goal, or the last of them is one
-pub record VisitedFor (b : List ℕ) (g : Goal) (order₀ trail₀ : List ℕ) (n i k : ℕ) (hit : Bool) (order trail numbers : List ℕ) : Type 0 where
+-- the codes below some code have been tried from the state at place i of the search s₀, which leaves s: all codes, and no state is a goal, or the last of them is one
+pub record VisitedFor {N M : ℕ} (b : List ℕ) (g : Goal) (s₀ : Search N M) (i : ℕ) (hit : Bool) (s : Search N M) : Type 0 where
   pub tried : ℕ
   pub within : tried ≤ width b
-  pub are : Arrays (visit (rows_machine (rows_of b) (width b)) (reached_at order₀ trail₀ i) tried (found_in n order₀ trail₀)) k order trail numbers
-  pub missed : hit ≡ false → (tried ≡ width b) × NoneBelow b g order k
-  pub found : hit ≡ true → (n < k) × OnlyLast b g order k
+  pub are : found_by s ≡ visit (rows_machine (rows_of b) (width b)) (reached_by s₀ i) tried (found_by s₀)
+  pub missed : hit ≡ false → (tried ≡ width b) × NoneFound b g s
+  pub found : hit ≡ true → (s₀.count < s.count) × OnlyLast b g s
 
--- the states of a search that has visited those before place i and found n, as far as they are still to be visited: those before place `end` are found after so many
--- codes, and those from it on after one more
-pub record AtLevel (trail : List ℕ) (n i codes end : ℕ) : Type 0 where
-  pub inside : i < n → i < end
-  pub most : end ≤ n
+-- the states of a search that has visited those before place i, as far as they are still to be visited: those before place `end` are found after so many codes, and
+-- those from it on after one more
+pub record AtLevel {N M : ℕ} (s : Search N M) (i codes end : ℕ) : Type 0 where
+  pub inside : i < s.count → i < end
+  pub most : end ≤ s.count
   pub few : codes ≤ i
-  pub here : (k : ℕ) → i ≤ k → k < end → length (history_at trail k) ≡ codes
-  pub next : (k : ℕ) → end ≤ k → k < n → length (history_at trail k) ≡ suc codes
+  pub here : (k : ℕ) → i ≤ k → k < end → length (history_of s k) ≡ codes
+  pub next : (k : ℕ) → end ≤ k → k < s.count → length (history_of s k) ≡ suc codes
 
 -- the level once place i is reached and n states are found
 abbrev pub next_length : ℕ → ℕ → ℕ → ℕ
@@ -64,14 +65,19 @@ next_length codes end i = cond (ltb i end) codes (suc codes)
 abbrev pub next_end : ℕ → ℕ → ℕ → ℕ
 next_end end i n = cond (ltb i end) end n
 
--- the search is over: no state that a history reaches is a goal, or the first that is one stands at the place with this number, counted from 1, and is reached
--- after so many codes
-pub record FirstState (b : List ℕ) (g : Goal) (number codes : ℕ) (order trail : List ℕ) : Type 0 where
-  pub nowhere : number ≡ 0 → first_that (is_goal b g) (states_reached b) ≡ none
-  pub somewhere : (k : ℕ) → number ≡ suc k → (first_that (is_goal b g) (states_reached b) ≡ some (reached_at order trail k))
-      × (k < states b) × EarlierParents (suc k) (first_at trail) × (codes ≡ length (history_at trail k))
+-- of the states that histories reach the first that is a goal is the last that is found, and is reached after so many codes
+pub record LastIsFirst {N M : ℕ} (b : List ℕ) (g : Goal) (s : Search N M) (codes : ℕ) : Type 0 where
+  pub last : ℕ
+  pub is : s.count ≡ suc last
+  pub first : first_that (is_goal b g) (states_reached b) ≡ some (reached_by s last)
+  pub few : last < states b
+  pub length-is : codes ≡ length (history_of s last)
+
+-- the search is over: no state that a history reaches is a goal, or the last that is found is the first that is one
+abbrev pub FirstState : {N M : ℕ} → List ℕ → Goal → Option ℕ → Search N M → Type 0
+FirstState b g result s = MatchOption result (first_that (is_goal b g) (states_reached b) ≡ none) (LastIsFirst b g s)
 
 -- what is returned, and the buffer before and after: the way to the goal is shown
-abbrev pub Shows : List ℕ → Goal → Shown → List ℕ → List ℕ → Type 0
+abbrev pub Shows : List ℕ → Goal → Option ℕ → List ℕ → List ℕ → Type 0
 Shows b g shown before after =
-    (shown_answer shown after ≡ given (way b g.request g.outcome)) × (after ≡ written (history_bytes (way b g.request g.outcome)) before)
+    (history_shown after shown ≡ way b g.request (sought g)) × (after ≡ written (history_bytes (way b g.request (sought g))) before)

@@ -1,12 +1,15 @@
--- What each answer of the code says in document 02's terms, with the buffer as the call leaves it.
-use Rattle.std.specs.Prelude.{List, ℕ, take}
-use Rattle.std.proofs.Math.Option.{Option, none, some}
+-- What the result of the code says in document 02's terms, with the buffer as the call leaves it.
+use Rattle.std.specs.Prelude.{List, ℕ, take, Option, None, Some, Result}
+use Rattle.std.proofs.Math.Option as Math
 use Rattle.automaton.specs.History.{History}
-use Rattle.definitions.specs.Answer.{Answer, refused, given}
-use Rattle.way.specs.declared.first.Shown.{Shown}
-use Rattle.way.specs.declared.first.Shown.TheVariants.{Refused, NoHistory, After}
+use Rattle.definitions.specs.Answer.{Answer}
+use Rattle.refusal.specs.declared.Refusal.{Refusal}
+use Rattle.refusal.specs.Refused.{answer_in}
 
-abbrev pub shown_answer : Shown → List ℕ → Answer (Option History)
-shown_answer (Refused number) history = refused number
-shown_answer NoHistory history = given none
-shown_answer (After n) history = given (some (take n history))
+-- no history, or one of so many codes at the front of the buffer
+abbrev pub history_shown : List ℕ → Option ℕ → Math.Option History
+history_shown buffer None = Math.none
+history_shown buffer (Some n) = Math.some (take n buffer)
+
+abbrev pub shown_answer : Result (Option ℕ) Refusal → List ℕ → Answer (Math.Option History)
+shown_answer result buffer = answer_in (history_shown buffer) result

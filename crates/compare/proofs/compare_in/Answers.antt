@@ -1,5 +1,12 @@
--- `compare_in` meets its contract: what the search finds is the comparison, and is the answer.
+-- `compare_in` meets its contract: books of one frame have one width.
+use Rattle.std.proofs.Common.{◌≡◌, rules}
+use Rattle.definitions.specs.Book.{width}
+use Rattle.definitions.proofs.Comparisons.{same_width_law}
 use Rattle.compare.proofs.compare_in.Goals as goal
 
-pub returns : goal.returns
-returns c = rw c.first_difference-spot.ensures.is (record { history_after = c.answer.ensures.history_after; history_after_2 = c.answer.ensures.history_after_2 })
+pub first_difference-requires : goal.first_difference-requires
+first_difference-requires g c =
+    let b = c.args.first.bytes.now in
+    let d = c.args.second.bytes.now in
+    let same : width b ≡ width d = same_width_law b d c.requires.one_frame.0 c.args.second.passed.layout.header.fields_most in
+    search rules

@@ -1,9 +1,5 @@
-use Prim.Native.Nat.{◌-◌}
 use Rattle.page.proofs.WrittenLines.{LinesWritten}
 use Rattle.page.proofs.write_lines.Given as goal
 
 abbrev pub invariant-loop-i : goal.invariant-loop-i
-invariant-loop-i l = LinesWritten l.book l.initial.page l.n l.i l.page
-
-abbrev pub decreases-loop-i : goal.decreases-loop-i
-decreases-loop-i l = l.n - l.i
+invariant-loop-i l = LinesWritten l.book.bytes.now l.initial.page l.n l.i l.page

@@ -3,9 +3,9 @@ use Rattle.packing.proofs.PackedBounds.{paged_within}
 use borrow.Author.Rules.{rules}
 use Rattle.policybook.proofs.policybook_page.Goals as goal
 
-pub pack_page-requires : goal.pack_page-requires
-pack_page-requires c = paged_within _ _ c.page.result c.page.ensures.result_value
+pub pack_length-requires : goal.pack_length-requires
+pack_length-requires c = paged_within _ _ c.page.result c.page.ensures.answer
 
 pub returns : goal.returns
 returns c =
-    let called = c.page in record { value = rw (← called.ensures.result_value) c.pack_page.ensures; page_after = called.ensures.page_after }
+    let called = c.page in record { value = rw (← called.ensures.answer) c.pack_length.ensures; page_after = called.ensures.page_after }

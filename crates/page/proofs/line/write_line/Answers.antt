@@ -11,4 +11,4 @@ returns c =
     let head = c.put_head-head.ensures.put in
     let columns = c.put_requests-end.ensures.put in
     let end = c.put_byte.ensures in
-    front (rw (line-parts a.book.now a.state a.depth) at (then head (then columns end))) (omega (arith, end.ends))
+    front (rw (line-parts a.book.bytes.now a.state a.depth) at (then head (then columns end))) (omega (arith, end.ends))

@@ -1,14 +1,9 @@
 -- `play` meets its contract: a short buffer, and one with room for every text.
 use native.Mathlib.Omega.{arith}
-use Rattle.text.proofs.Room.{too_short, long-enough}
+use Rattle.text.proofs.Room.{long-enough}
 use Rattle.play.specs.Play.{play_text}
 use Rattle.play.proofs.BookAndSteps.{input_read}
 use Rattle.play.proofs.input.play.Goals as goal
-
-pub returns-then-out-lt131072 : goal.returns-then-out-lt131072
-returns-then-out-lt131072 c =
-    let all = too_short 131072 (play_text c.args.input.now) c.args.out.now c.if-out-lt131072.true in
-    record { value = all.0; out_after = all.1.0; upper_bound = all.1.1 }
 
 pub returns : goal.returns
 returns c =

@@ -1,52 +1,31 @@
--- `visit_for` meets its contract: the codes below c have been tried from the state at place i, and no state that is found is a goal.
-use mathlib.Core.Path.{refl}
+-- `visit_for` meets its contract: the codes below some code have been tried from the state at the place, and no state that is found is a goal.
 use native.Mathlib.Omega.{arith}
 use borrow.Author.Rules.{rules}
-use Rattle.way.proofs.VisitTurns.{visit_begun, visit-low, visit-state, visit-asks, visit-new, visit-hit, visit-turn, visit-done}
+use Rattle.way.proofs.VisitTurns.{visit-asks, visit-new, visit-hit, visit-turn}
+use Rattle.way.proofs.first.visit_for.Goals.{else-known-count-via-then-known-count+else-is_goal, else-known-count-via-else-known-count}
 use Rattle.way.proofs.first.visit_for.Goals as goal
 
-pub bounds-order-i : goal.bounds-order-i
-bounds-order-i c = let p = c.requires in omega (arith, p.can_visit.before, p.arrays.0.room_order, visit-low p.goal_in.0.passed p.can_visit, p.arrays.1)
+pub note-requires : goal.note-requires
+note-requires g c =
+    let book = c.args.book in
+    (search rules, visit-asks book.passed c.requires.can_visit c.loop-code.invariant (omega (arith, c.loop-code-test.true, book.width_is)) _ c.state-state.ensures _ c.entry-there.ensures c.requires.room)
 
-pub loop-c-init : goal.loop-c-init
-loop-c-init c = let p = c.requires in (visit_begun _ _ _ _ p.goal_in.1 p.arrays.0, refl, refl, refl)
+pub is_goal-requires : goal.is_goal-requires
+is_goal-requires g c =
+    let book = c.args.book in
+    let there = visit-new book.passed c.requires.can_visit c.loop-code.invariant (omega (arith, c.loop-code-test.true, book.width_is)) _ c.state-state.ensures _ c.entry-there.ensures c.note.new.self c.note.ensures (omega (arith, c.if-known-count.true, c.count-known.ensures, c.count.ensures)) in
+    (c.requires.goal_in.0, there.0, there.1)
 
-pub entry-there-requires : goal.entry-there-requires
-entry-there-requires c =
-    let p = c.requires in record { book_layout = p.goal_in.0.passed.layout; width_value = (p.goal_in.0.wide, c.loop-c-test.true); le_s = visit-state p.goal_in.0.passed p.can_visit _ c.wide-state.ensures.0 }
+pub returns-then-is_goal : goal.returns-then-is_goal
+returns-then-is_goal g c =
+    let book = c.args.book in
+    visit-hit book.passed c.requires.can_visit c.loop-code.invariant (omega (arith, c.loop-code-test.true, book.width_is)) _ c.state-state.ensures _ c.entry-there.ensures c.note.new.self c.note.ensures (omega (arith, c.if-known-count.true, c.count-known.ensures, c.count.ensures)) c.if-is_goal.ensures
 
-pub note-more-requires : goal.note-more-requires
-note-more-requires c =
-    let p = c.requires in
-    let l = c.loop-c in
-    let all = visit-asks p.goal_in.0.passed p.can_visit l.invariant.0 (omega (arith, c.loop-c-test.true, p.goal_in.0.wide)) _ c.wide-state.ensures.0 _ c.entry-there.ensures (omega (arith, p.arrays.1, l.invariant.3)) in
-    record { arrays = all.0; state_in_bounds = all.1.0; code_in_bounds = all.1.1 }
-
-pub is_hit-requires : goal.is_hit-requires
-is_hit-requires c =
-    let p = c.requires in
-    let l = c.loop-c in
-    (p.goal_in.0, visit-new p.goal_in.0.passed p.can_visit l.invariant.0 (omega (arith, c.loop-c-test.true, p.goal_in.0.wide)) _ c.wide-state.ensures.0 _ c.entry-there.ensures c.note-more.ensures)
-
-pub returns-then-is_hit : goal.returns-then-is_hit
-returns-then-is_hit c =
-    let p = c.requires in
-    let l = c.loop-c in
-    visit-hit p.goal_in.0.passed p.can_visit l.invariant.0 (omega (arith, c.loop-c-test.true, p.goal_in.0.wide)) _ c.wide-state.ensures.0 _ c.entry-there.ensures c.note-more.ensures _ c.is_hit.ensures c.if-is_hit.true
-
-pub overflow_add-c : goal.overflow_add-c
-overflow_add-c c =
-    let g = c.requires.goal_in.0 in omega (arith, c.loop-c-test.true, g.wide, g.passed.layout.header.width_most)
-
-pub loop-c-smaller : goal.loop-c-smaller
-loop-c-smaller c = omega (arith, c.loop-c-test.true)
-
-pub loop-c-preserved : goal.loop-c-preserved
-loop-c-preserved c =
-    let p = c.requires in
-    let l = c.loop-c in
-    let turned = visit-turn p.goal_in.0.passed p.can_visit l.invariant.0 (omega (arith, c.loop-c-test.true, p.goal_in.0.wide)) _ c.wide-state.ensures.0 _ c.entry-there.ensures c.note-more.ensures _ c.is_hit.ensures c.if-is_hit.false in
-    (turned, search rules, search rules, search rules)
-
-pub returns : goal.returns
-returns c = let p = c.requires in visit-done p.goal_in.0.passed p.can_visit c.loop-c.invariant.0 (omega (arith, c.loop-c-test.false, p.goal_in.0.wide))
+pub loop-code-preserved : goal.loop-code-preserved
+loop-code-preserved g c =
+    let book = c.args.book in
+    let turned = visit-turn book.passed c.requires.can_visit c.loop-code.invariant (omega (arith, c.loop-code-test.true, book.width_is)) _ c.state-state.ensures _ c.entry-there.ensures c.note.new.self c.note.ensures in
+    elim c.else-known-count.branch [
+      | else-known-count-via-then-known-count+else-is_goal w ↦ turned (λ _. w.if-is_goal.ensures)
+      | else-known-count-via-else-known-count w ↦ turned (λ l. absurd (omega (arith, w.if-known-count.false, c.count-known.ensures, c.count.ensures)))
+    ]

@@ -1,13 +1,5 @@
-use mathlib.Core.Path.{◌≡◌}
-use Prim.Native.Nat.{◌-◌}
-use lib.ListN.{length}
 use Rattle.way.proofs.VisitTurns.{VisitTurn}
 use Rattle.way.proofs.first.visit_for.Given as goal
 
-abbrev pub invariant-loop-c : goal.invariant-loop-c
-invariant-loop-c l =
-    VisitTurn l.book l.goal l.initial.order l.initial.trail l.n l.i l.c l.k l.order l.trail l.numbers
-    × (length l.order ≡ length l.initial.order) × (length l.trail ≡ length l.initial.trail) × (length l.numbers ≡ length l.initial.numbers)
-
-abbrev pub decreases-loop-c : goal.decreases-loop-c
-decreases-loop-c l = l.width - l.c
+abbrev pub invariant-loop-code : goal.invariant-loop-code
+invariant-loop-code g l = VisitTurn l.book.bytes.now l.goal l.initial.search l.place l.code l.search

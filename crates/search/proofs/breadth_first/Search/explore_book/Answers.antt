@@ -7,10 +7,10 @@ use Rattle.search.proofs.breadth_first.Search.explore_book.Goals as goal
 
 pub explore-requires : goal.explore-requires
 explore-requires g c =
-    let p = c.requires.book_passed in
-    (search rules, ((part-rows _ p.0 _ p.1, omega (arith, part_count _ p.0 _ p.1, p.2)), c.requires.begun))
+    let b = c.args.book in
+    (search rules, ((part-rows _ b.passed _ b.width_is, omega (arith, part_count _ b.passed _ b.width_is, c.requires.room)), c.requires.begun))
 
 pub returns : goal.returns
 returns g c =
-    let p = c.requires.book_passed in
-    c.explore.ensures ∙ part_states_law _ p.0 _ p.1
+    let b = c.args.book in
+    c.explore.ensures ∙ part_states_law _ b.passed _ b.width_is
