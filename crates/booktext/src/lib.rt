@@ -12,7 +12,7 @@ use book::Book;
 use hex::put_hex_line;
 use lines::put_book;
 
-// Which text is written of a book.
+// Which text is written of a book. It decides the room and the text: as a closure it would need the room beside it.
 #[derive(Clone, Copy, Debug, PartialEq, Eq)]
 pub enum Form {
     Findings,

@@ -50,6 +50,7 @@ fn relabel(label: &mut [u8], from: u8, to: u8)
     }
 }
 
+// The label that a number has then.
 fn moved(from: u8, to: u8, x: u8) -> u8
     ensures { result ≡ moved_to from to x }
 {

@@ -6,7 +6,8 @@ ghost use Rattle.findings.specs.SoughtRequests.{sought_by, test_of, IsLowest};
 
 use book::{Book, Telling};
 
-// What is looked for: a request that may be both accepted and rejected, one that may be neither, or one that may be either.
+// What is looked for: a request that may be both accepted and rejected, one that may be neither, or one that may be either. The definitions speak of each by its name
+// (`sought_finding`), which a closure has not.
 #[derive(Clone, Copy)]
 pub enum Sought {
     Conflict,

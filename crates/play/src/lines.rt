@@ -1,4 +1,5 @@
 // The line that is written after the opening and after each step: the state and what is told of each request, or the number of a refusal.
+// The book's bytes and the state are two parameters, as `walk` takes them.
 ghost use Rattle.std.specs.Prelude.{◌≡◌, ◌+◌, ◌≤◌, length, IfOk};
 ghost use Rattle.definitions.specs.Book as B;
 ghost use Rattle.text.specs.Put.{Put};

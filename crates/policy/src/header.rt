@@ -1,4 +1,4 @@
-// The numbers at the front of the file.
+// The numbers at the front of the file. Each is a function of one line with its name in document 01; one function by the place alone would be no plainer.
 ghost use Rattle.std.specs.Prelude.{◌≡◌, ◌+◌, ◌<◌, ◌≤◌, length};
 ghost use Rattle.definitions.specs.Bytes.{byte, two_bytes};
 ghost use Rattle.definitions.specs.Policy.{events, fields, variables, rules, count, starts, rule_size};

@@ -1,4 +1,4 @@
-// The fields of a rule's record. A rule is handed on as the part of the table that begins with its record.
+// The fields of a rule's record, each by its name in document 01. A rule is handed on as the part of the table that begins with its record.
 ghost use Rattle.std.specs.Prelude.{◌≡◌, ◌+◌, ◌*◌, ◌<◌, length};
 ghost use Rattle.definitions.specs.Policy.{variables, mask, decision, level, ge, lt, change};
 ghost use Rattle.policy.specs.Sized.{RuleOf};

@@ -1,4 +1,5 @@
-// The rules of a policy: which match a request, which are enabled in a valuation, and where carrying out changes leads.
+// The rules of a policy: which match a request, which are enabled in a valuation, and where carrying out changes leads. Memory is fixed: a set of rules is a word, and
+// values are arrays beside the policy, which says how many of their places count.
 #![tactic(auto)]
 
 pub mod effects;

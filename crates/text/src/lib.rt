@@ -1,4 +1,5 @@
 // Writers of text: each puts its text into a buffer from a place on, leaves every other byte unchanged, and returns the place after the text. And parts of an input.
+// The buffer and the place are two parameters: with a struct that holds the buffer each writer needs one clause more, that it still lends the same one, and longer bounds.
 #![tactic(auto)]
 
 ghost use Rattle.std.specs.Prelude.{◌≡◌, ℕ, List, [], ◌∷◌, ◌++◌, ◌+◌, ◌*◌, ◌/◌, ◌≤◌, ◌<◌, length, take};
