@@ -6,4 +6,4 @@ mod layout;
 mod telling;
 
 pub use layout::Book;
-pub use telling::Telling;
+pub use telling::{Telling, telling_at};

@@ -5,4 +5,4 @@ mod breadth_first;
 mod trail;
 
 pub use breadth_first::Search;
-pub use trail::{put, write_history};
+pub use trail::{put, write_codes, write_history};
