@@ -17,32 +17,32 @@ use Rattle.definitions.proofs.Written.{written_read}
 use Rattle.search.specs.declared.breadth_first.Search.{Search}
 use Rattle.search.specs.Searched as Found
 use Rattle.search.proofs.FirstFound.{first_of_front}
-use Rattle.way.specs.FirstState.{sought, is_goal, LastIsFirst, Shows}
+use Rattle.way.specs.FirstState.{bytes_of, sought, is_goal, LastIsFirst, Shows}
 use Rattle.way.specs.declared.goal.Goal.{Goal}
 
-module _ (b : List ℕ) (g : Goal) where
-  way-is : (o : Option Reached) → first_that (is_goal b g) (states_reached b) ≡ o → way b g.request (sought g) ≡ history_of o
+module _ (g : Goal) where
+  way-is : (o : Option Reached) → first_that (is_goal g) (states_reached (bytes_of g)) ≡ o → way (bytes_of g) g.request (sought g) ≡ history_of o
   unfolding way
   way-is o e = ap history_of e
 
-  pub shows-none : first_that (is_goal b g) (states_reached b) ≡ none → (buffer : List ℕ) → Shows b g None buffer buffer
+  pub shows-none : first_that (is_goal g) (states_reached (bytes_of g)) ≡ none → (buffer : List ℕ) → Shows g None buffer buffer
   shows-none e buffer = rw (way-is none e) (refl, refl)
 
-  module _ {N M : ℕ} {s : Search N M} {codes : ℕ} (F : LastIsFirst b g s codes) where
+  module _ {N M : ℕ} {s : Search N M} {codes : ℕ} (F : LastIsFirst g s codes) where
     place : s.count - 1 ≡ F.last
     place = omega (arith, F.is)
 
     -- the codes of that place are written
-    pub shows-found : (k : ℕ) → k ≡ s.count - 1 → (buffer after : List ℕ) → after ≡ written (Found.history_of s k) buffer → Shows b g (Some codes) buffer after
+    pub shows-found : (k : ℕ) → k ≡ s.count - 1 → (buffer after : List ℕ) → after ≡ written (Found.history_of s k) buffer → Shows g (Some codes) buffer after
     shows-found k ek buffer after ea =
         let e : after ≡ written (Found.history_of s F.last) buffer = rw (ek ∙ place) at ea in
         rw (way-is (some (Found.reached_by s F.last)) F.first, written_read (Found.history_of s F.last) buffer codes after F.length-is e) (refl, e)
 
-  start_first : Front (start_of (book_machine b)) (states_reached b)
-  start_first = remains_front (book_machine b) 127 (states_reached b) 0 (start_of (book_machine b)) (remains_begun (book_machine b) 127 (states_reached b) refl)
+  start_first : Front (start_of (book_machine (bytes_of g))) (states_reached (bytes_of g))
+  start_first = remains_front (book_machine (bytes_of g)) 127 (states_reached (bytes_of g)) 0 (start_of (book_machine (bytes_of g))) (remains_begun (book_machine (bytes_of g)) 127 (states_reached (bytes_of g)) refl)
 
-  pub shows-start : true ≡ is_goal b g 1 → (buffer : List ℕ) → Shows b g (Some 0) buffer buffer
+  pub shows-start : true ≡ is_goal g 1 → (buffer : List ℕ) → Shows g (Some 0) buffer buffer
   shows-start hit buffer =
       let t : Reached = record { state = 1; history = [] } in
-      let here : first_that (is_goal b g) (t ∷ []) ≡ some t = ap (λ (p : Bool). cond p (some t) none) (sym hit) in
-      rw (way-is (some t) (first_of_front (is_goal b g) start_first t here)) (refl, refl)
+      let here : first_that (is_goal g) (t ∷ []) ≡ some t = ap (λ (p : Bool). cond p (some t) none) (sym hit) in
+      rw (way-is (some t) (first_of_front (is_goal g) start_first t here)) (refl, refl)

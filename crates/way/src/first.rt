@@ -3,30 +3,28 @@ ghost use Rattle.std.specs.Prelude.{◌≡◌, false, ◌*◌, ◌≤◌, ◌<�
 ghost use Rattle.definitions.specs.Book as B;
 ghost use Rattle.search.specs.Found.{started};
 ghost use Rattle.search.specs.Searched.{found_by, CanVisit};
-ghost use Rattle.way.specs.FirstState.{rows_of, GoalIn, is_goal, NoneFound, VisitedFor, next_length, next_end, FirstState, Shows};
+ghost use Rattle.way.specs.FirstState.{rows_of, is_goal, NoneFound, VisitedFor, next_length, next_end, FirstState, Shows};
 
-use crate::goal::{Goal, is_goal};
-use book::Book;
+use crate::goal::Goal;
 use search::Search;
 
 // The codes are tried, in order, from the state at a place, until one leads to a new state that is a goal. Whether one does.
 fn visit_for<const N: usize, const M: usize>(
     search: &mut Search<N, M>,
-    book: Book,
     goal: Goal,
     place: usize,
 ) -> bool
-    requires goal_in { GoalIn book.bytes.now goal × NoneFound book.bytes.now goal search.old }
-    requires can_visit { CanVisit (rows_of book.bytes.now) (B.width book.bytes.now) search.old place }
-    requires room { B.states book.bytes.now < N }
-    ensures { VisitedFor book.entry.bytes.now goal search.old place result search.new }
+    requires none_found { NoneFound goal search.old }
+    requires can_visit { CanVisit (rows_of goal) (B.width goal.book.bytes.now) search.old place }
+    requires room { B.states goal.book.bytes.now < N }
+    ensures { VisitedFor goal.entry search.old place result search.new }
 {
     let state = search.state(place);
-    for code in 0..book.width {
-        let there = book.entry(state, code);
+    for code in 0..goal.book.width {
+        let there = goal.book.entry(state, code);
         let known = search.count();
         search.note(there, place, code);
-        if known < search.count() && is_goal(book, goal, there) {
+        if known < search.count() && goal.is_met_at(there) {
             return true;
         }
     }
@@ -59,15 +57,14 @@ fn next_level(level: Level, i: usize, n: usize) -> Level
 // found and none is a goal the search is over.
 fn first_state<const N: usize, const M: usize>(
     search: &mut Search<N, M>,
-    book: Book,
     goal: Goal,
 ) -> Option<usize>
-    requires goal_in { GoalIn book.bytes.now goal × (is_goal book.bytes.now goal 1 ≡ false) }
+    requires start { is_goal goal 1 ≡ false }
     requires begun { found_by search.old ≡ started }
-    requires room { B.states book.bytes.now < N }
-    ensures { FirstState book.entry.bytes.now goal result search.new }
+    requires room { B.states goal.book.bytes.now < N }
+    ensures { FirstState goal.entry result search.new }
 {
-    let all = book.states();
+    let all = goal.book.states();
     let mut level = Level { length: 0, end: 1 };
     let mut i = 0;
     // The number of states found grows as they are visited.
@@ -75,7 +72,7 @@ fn first_state<const N: usize, const M: usize>(
         if all <= search.count() {
             return None;
         }
-        if visit_for(search, book, goal, i) {
+        if visit_for(search, goal, i) {
             return Some(level.length + 1);
         }
         i += 1;
@@ -85,18 +82,14 @@ fn first_state<const N: usize, const M: usize>(
 }
 
 // The way, where the start is no goal, by a search with room for fewer than N states.
-pub fn show_in<const N: usize, const M: usize>(
-    book: Book,
-    goal: Goal,
-    history: &mut [u8],
-) -> Option<usize>
+pub fn show_in<const N: usize, const M: usize>(goal: Goal, history: &mut [u8]) -> Option<usize>
     requires sizes { (2 ≤ N) × (N ≤ 128) × (M ≡ 2 * N) }
-    requires goal_in { GoalIn book.bytes.now goal × (is_goal book.bytes.now goal 1 ≡ false) }
-    requires room { (B.states book.bytes.now < N) × (128 ≤ length history.old) }
-    ensures { Shows book.entry.bytes.now goal result history.old history.new }
+    requires start { is_goal goal 1 ≡ false }
+    requires room { (B.states goal.book.bytes.now < N) × (128 ≤ length history.old) }
+    ensures { Shows goal.entry result history.old history.new }
 {
     let mut search = Search::<N, M>::new();
-    let length = first_state(&mut search, book, goal)?;
+    let length = first_state(&mut search, goal)?;
     let last = search.count() - 1;
     search.write_codes(last, length, history);
     Some(length)

@@ -4,16 +4,16 @@
 
 ghost use Rattle.std.specs.Prelude.{◌≡◌, ◌≤◌, length};
 ghost use Rattle.definitions.specs.Way.{way_answer, way_buffer};
-ghost use Rattle.way.specs.FirstState.{GoalIn, Shows};
+ghost use Rattle.way.specs.FirstState.{Shows};
 ghost use Rattle.way.specs.ShownAnswer.{shown_answer};
 
 mod first;
 mod goal;
 
-use book::{Book, Telling};
+use book::Telling;
 use bookcheck::check;
 use first::show_in;
-use goal::{Goal, is_goal};
+use goal::Goal;
 use refusal::Refusal;
 
 // Finds the earliest possible history after which a request has an outcome: 0 none, 1 accept, 2 reject, 3 both. The history goes to the front of the buffer, and its
@@ -36,23 +36,24 @@ pub fn way(
         return Err(Refusal::NotInBook);
     }
     let goal = Goal {
+        book,
         request,
         outcome: sought,
     };
-    Ok(show(book, goal, history))
+    Ok(show(goal, history))
 }
 
 // A call that no row refuses. Where the start has the outcome there is nothing to search. Room for few states is sooner cleared.
-fn show(book: Book, goal: Goal, history: &mut [u8]) -> Option<usize>
-    requires { GoalIn book.bytes.now goal × (128 ≤ length history.old) }
-    ensures { Shows book.entry.bytes.now goal result history.old history.new }
+fn show(goal: Goal, history: &mut [u8]) -> Option<usize>
+    requires { 128 ≤ length history.old }
+    ensures { Shows goal.entry result history.old history.new }
 {
-    if is_goal(book, goal, 1) {
+    if goal.is_met_at(1) {
         return Some(0);
     }
-    if book.states() < 16 {
-        show_in::<16, 32>(book, goal, history)
+    if goal.book.states() < 16 {
+        show_in::<16, 32>(goal, history)
     } else {
-        show_in::<128, 256>(book, goal, history)
+        show_in::<128, 256>(goal, history)
     }
 }

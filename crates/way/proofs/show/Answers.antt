@@ -2,5 +2,5 @@
 use Rattle.way.proofs.ShownWays.{shows-start}
 use Rattle.way.proofs.show.Goals as goal
 
-pub returns-then-is_goal : goal.returns-then-is_goal
-returns-then-is_goal c = shows-start _ c.args.goal c.if-is_goal.ensures c.args.history.now
+pub returns-then-is_met_at : goal.returns-then-is_met_at
+returns-then-is_met_at c = shows-start c.args.goal c.if-is_met_at.ensures c.args.history.now

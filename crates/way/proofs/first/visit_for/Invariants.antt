@@ -2,4 +2,4 @@ use Rattle.way.proofs.VisitTurns.{VisitTurn}
 use Rattle.way.proofs.first.visit_for.Given as goal
 
 abbrev pub invariant-loop-code : goal.invariant-loop-code
-invariant-loop-code g l = VisitTurn l.book.bytes.now l.goal l.initial.search l.place l.code l.search
+invariant-loop-code g l = VisitTurn l.goal l.initial.search l.place l.code l.search
