@@ -26,6 +26,3 @@ returns-in_err-check c =
 
 pub of-requires : goal.of-requires
 of-requires c = has-passed c.args.policy.now (sym c.in_ok-check.ensures)
-
-pub invariant_of-checked : goal.invariant_of-checked
-invariant_of-checked c = record { passed = sym c.in_ok-check.ensures; shape_is = c.of.ensures }

@@ -45,11 +45,8 @@ images c = c.fill_images.new.images
 images-of : (c : After-explore) → ImagesOf (policy c) (images c)
 images-of c = c.fill_images.ensures
 
-numbers : (c : After-explore) → c.args.policy.shape ≡ shape_of (policy c)
-numbers c = c.args.policy.shape_is
-
 start_is : (c : After-explore) → c.start-start.result.set ≡ start_situation (policy c)
-start_is c = c.start-start.ensures ∙ ap (λ (s : Shape). insert s.start empty_set) (numbers c)
+start_is c = c.start-start.ensures ∙ ap (λ (s : Shape). insert s.start empty_set) c.args.policy.shape_is
 
 -- what exploring leaves where n situations are found, and where n is 0
 abbrev Explored : After-explore → ℕ → Type 0
@@ -60,16 +57,16 @@ Explored c n =
 reaches : (c : After-explore) (n : ℕ) → Explored c n
     → Reaches (images_machine (images c) (valuations (policy c)) (width (policy c)) (start_situation (policy c))) (replicate 128 0) c.args.raw.now n
     c.explore.new.found c.explore.new.raw
-reaches c n = reaches-by (policy c) (images c) (replicate 128 0) c.args.raw.now c.args.policy.shape _ n _ _ (numbers c) (start_is c)
+reaches c n = reaches-by (policy c) (images c) (replicate 128 0) c.args.raw.now c.args.policy.shape _ n _ _ c.args.policy.shape_is (start_is c)
 
 raw-fits : (c : After-explore)
     → RowsFit (images_machine (images c) (valuations (policy c)) (width (policy c)) (start_situation (policy c))) (length c.args.raw.now)
 raw-fits c =
     situations_fit (policy c) (images c) (images-of c) (length c.args.raw.now)
-    (room (policy c) c.args.policy.shape (length c.args.images.now) (length c.args.raw.now) (numbers c) c.requires.room).1
+    (room (policy c) c.args.policy.shape (length c.args.images.now) (length c.args.raw.now) c.args.policy.shape_is c.requires.room).1
 
 wide : (c : After-explore) → c.args.policy.shape.width ≡ width (policy c)
-wide c = ap (λ (s : Shape). s.width) (numbers c)
+wide c = ap (λ (s : Shape). s.width) c.args.policy.shape_is
 
 over : (c : After-explore) → Explored c 0 → 127 < length (situations (policy c))
 over c none = situations-over (policy c) (images c) (images-of c) (raw-fits c) (reaches c 0 none) refl
@@ -79,13 +76,14 @@ rows c n found = situation-rows (policy c) (images c) (images-of c) (raw-fits c)
 
 pub fill_images-requires : goal.fill_images-requires
 fill_images-requires c =
-    let policy = c.args.policy.bytes.now in
-    let fits = room policy c.args.policy.shape (length c.args.images.now) (length c.args.raw.now) c.args.policy.shape_is c.requires.room in
-    (has-passed policy c.args.policy.passed, c.args.policy.shape_is, fits.0)
+    let policy = c.args.policy in
+    let fits = room policy.bytes.now policy.shape (length c.args.images.now) (length c.args.raw.now) policy.shape_is c.requires.room in
+    (has-passed policy.bytes.now policy.passed, policy.shape_is, fits.0)
 
 pub start-start-requires : goal.start-start-requires
 start-start-requires c =
-    omega (arith, start-low c.args.policy.bytes.now c.args.policy.passed, ap (λ (s : Shape). s.start) c.args.policy.shape_is)
+    let policy = c.args.policy in
+    omega (arith, start-low policy.bytes.now policy.passed, ap (λ (s : Shape). s.start) policy.shape_is)
 
 pub invariant_of-table : goal.invariant_of-table
 invariant_of-table c =
@@ -119,7 +117,7 @@ write_book-requires c =
     let policy = c.args.policy in
     let t = rows (goal.at.write_book-requires c).After-explore c.in-Some.n c.in-Some.ensures in
     let low = book-fits policy.bytes.now policy.passed c.in-Some.n t.few in
-    rw (numbers (goal.at.write_book-requires c).After-explore) record {
+    rw policy.shape_is record {
       table_in = (t.is_table, t.few, t.ordered, omega (arith, c.requires.holds_any_book));
       in_bounds = header_read policy.bytes.now policy.passed;
     }
