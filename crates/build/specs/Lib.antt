@@ -1,2 +1,2 @@
 pub mod BuiltAnswer
-pub mod Buildable
+pub mod Room

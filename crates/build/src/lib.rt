@@ -10,15 +10,26 @@ ghost use Rattle.definitions.specs.Answer.{written};
 ghost use Rattle.definitions.specs.Policy.{fields, frame};
 ghost use Rattle.definitions.specs.Book.{book_bytes};
 ghost use Rattle.definitions.specs.Build.{build_answer, build_buffer};
+ghost use Rattle.definitions.specs.Refusal.{file_refusal};
 ghost use Rattle.definitions.specs.Rows.{rows_in, TableIn};
 ghost use Rattle.build.specs.BuiltAnswer.{built_answer};
-ghost use Rattle.build.specs.Buildable.{RoomFor, Buildable};
+ghost use Rattle.build.specs.Room.{RoomFor};
+ghost use Rattle.policy.specs.Shape.{shape_of};
 
 use explore::Images;
 use policy::header;
 use policy::shape::Shape;
 use refusal::Refusal;
 use situation::Situation;
+
+// A policy that no row before row 11 refuses, with the numbers that its bytes decide and every step needs.
+#[derive(Clone, Copy)]
+struct CheckedPolicy<'a> {
+    bytes: &'a [u8],
+    shape: Shape,
+    ghost passed: { file_refusal bytes.now ≡ 0 },
+    ghost shape_is: { shape ≡ shape_of bytes.now },
+}
 
 // The six bytes of the frame: the number of events, that of fields, the value counts of the fields, and 0 for each absent one.
 fn frame_of(policy: &[u8]) -> [u8; 6]
@@ -42,22 +53,22 @@ fn write_book(book: &mut [u8], policy: &[u8], raw: &[u8], n: usize, w: usize) ->
     join::write_joined(book, &frame_of(policy), raw, n, w)
 }
 
-// The book of a policy that no row before row 11 refuses. Row 11, over 127 situations, leaves the buffer unchanged, and so are the bytes after a book. `images`
-// and `raw` are room to work in; nothing is said of what they hold afterwards.
+// The book of a policy. Row 11, over 127 situations, leaves the buffer unchanged, and so are the bytes after a book. `images` and `raw` are room to work in;
+// nothing is said of what they hold afterwards.
 fn build_in(
-    policy: &[u8],
-    shape: Shape,
+    policy: CheckedPolicy,
     book: &mut [u8],
     images: &mut [u64],
     raw: &mut [u8],
 ) -> Result<usize, Refusal>
-    requires buildable { Buildable policy.now shape book.old }
-    requires room { RoomFor policy.now shape (length images.old) (length raw.old) }
-    ensures answer { built_answer result ≡ build_answer policy.now book.old }
-    ensures book { book.new ≡ build_buffer policy.now book.old }
+    requires holds_any_book { 17284 ≤ length book.old }
+    requires room { RoomFor policy.bytes.now policy.shape (length images.old) (length raw.old) }
+    ensures answer { built_answer result ≡ build_answer policy.entry.bytes.now book.old }
+    ensures book { book.new ≡ build_buffer policy.entry.bytes.now book.old }
 {
+    let shape = policy.shape;
     let mut found = [0u64; 128];
-    images::fill_images(policy, shape, images);
+    images::fill_images(policy.bytes, shape, images);
     let table = Images {
         sets: images,
         valuations: shape.valuations,
@@ -67,51 +78,51 @@ fn build_in(
     let Some(n) = explore::explore(table, start, &mut found, raw) else {
         return Err(Refusal::Situations);
     };
-    Ok(write_book(book, policy, raw, n, shape.width))
+    Ok(write_book(book, policy.bytes, raw, n, shape.width))
 }
 
 // The same, with arrays for room: so many words for the images, and so many bytes for the rows. Each size stays apart from the function that chooses it: that one
 // would have all of them on its stack, and to touch them page by page takes as long as to clear some thousand bytes.
 #[inline(never)]
 fn build_with<const IMAGES: usize, const RAW: usize>(
-    policy: &[u8],
-    shape: Shape,
+    policy: CheckedPolicy,
     book: &mut [u8],
 ) -> Result<usize, Refusal>
-    requires buildable { Buildable policy.now shape book.old }
-    requires room { RoomFor policy.now shape IMAGES RAW }
+    requires holds_any_book { 17284 ≤ length book.old }
+    requires room { RoomFor policy.bytes.now policy.shape IMAGES RAW }
     requires sizes { (IMAGES ≤ 8704) × (RAW ≤ 17272) }
-    ensures answer { built_answer result ≡ build_answer policy.now book.old }
-    ensures book { book.new ≡ build_buffer policy.now book.old }
+    ensures answer { built_answer result ≡ build_answer policy.entry.bytes.now book.old }
+    ensures book { book.new ≡ build_buffer policy.entry.bytes.now book.old }
 {
     let mut images = [0u64; IMAGES];
     let mut raw = [0u8; RAW];
-    build_in(policy, shape, book, &mut images, &mut raw)
+    build_in(policy, book, &mut images, &mut raw)
 }
 
 // With the room that the policy's numbers ask for, since smaller arrays are cleared faster: at most 3 valuations have at most 7 situations, and at most 6 have 63,
 // for each set of them but the empty one is at most one situation (without rules there is one of each).
-fn build_sized(policy: &[u8], shape: Shape, book: &mut [u8]) -> Result<usize, Refusal>
-    requires { Buildable policy.now shape book.old }
-    ensures answer { built_answer result ≡ build_answer policy.now book.old }
-    ensures book { book.new ≡ build_buffer policy.now book.old }
+fn build_sized(policy: CheckedPolicy, book: &mut [u8]) -> Result<usize, Refusal>
+    requires holds_any_book { 17284 ≤ length book.old }
+    ensures answer { built_answer result ≡ build_answer policy.entry.bytes.now book.old }
+    ensures book { book.new ≡ build_buffer policy.entry.bytes.now book.old }
 {
+    let shape = policy.shape;
     if shape.width <= 32 {
         if shape.valuations <= 3 {
-            return build_with::<96, 224>(policy, shape, book);
+            return build_with::<96, 224>(policy, book);
         }
         if shape.valuations * shape.width <= 512 {
-            return build_with::<512, 4064>(policy, shape, book);
+            return build_with::<512, 4064>(policy, book);
         }
-        return build_with::<2048, 4064>(policy, shape, book);
+        return build_with::<2048, 4064>(policy, book);
     }
     if shape.valuations <= 3 {
-        return build_with::<408, 952>(policy, shape, book);
+        return build_with::<408, 952>(policy, book);
     }
     if shape.valuations <= 6 {
-        return build_with::<816, 8568>(policy, shape, book);
+        return build_with::<816, 8568>(policy, book);
     }
-    build_with::<8704, 17272>(policy, shape, book)
+    build_with::<8704, 17272>(policy, book)
 }
 
 // The book of a policy, in the first bytes of the buffer; the bytes after it are unchanged. A refusal leaves the whole buffer as it was.
@@ -123,5 +134,9 @@ pub fn build(policy: &[u8], book: &mut [u8]) -> Result<usize, Refusal>
         return Err(Refusal::ShortBuffer);
     }
     policycheck::check(policy)?;
-    build_sized(policy, Shape::of(policy), book)
+    let checked = CheckedPolicy {
+        bytes: policy,
+        shape: Shape::of(policy),
+    };
+    build_sized(checked, book)
 }

@@ -26,6 +26,3 @@ returns-in_err-check c =
 
 pub of-requires : goal.of-requires
 of-requires c = has-passed c.args.policy.now (sym c.in_ok-check.ensures)
-
-pub build_sized-requires : goal.build_sized-requires
-build_sized-requires c = record { file = sym c.in_ok-check.ensures; numbers = c.of.ensures; room = c.if-book-lt17284.false }

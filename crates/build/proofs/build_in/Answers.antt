@@ -1,6 +1,6 @@
 -- `build_in` meets its contract: what exploring leaves is the table of the policy's situations, and its book is written.
 use Rattle.images.specs.Images.{ImagesOf}
-use Rattle.build.specs.Buildable.{RoomFor}
+use Rattle.build.specs.Room.{RoomFor}
 use Rattle.build.proofs.PolicySizes.{has-passed, width_low, start-low, start-some, valuations-low, book-fits, header_read}
 use Rattle.build.proofs.RawTable.{SituationRows, situations_fit, situations-over, situation-rows}
 use Rattle.build.proofs.BuildAnswers.{refused-by-11, refused-by-none, build_refused, build_given}
@@ -36,7 +36,7 @@ fits_by p images s set room is begins are h = rw (is, begins) (situations_fit p 
 
 -- ---- after exploring
 abbrev policy : After-explore → List ℕ
-policy c = c.args.policy.now
+policy c = c.args.policy.bytes.now
 
 -- the images are the policy's, and its situations are reached
 abbrev images : After-explore → List ℕ
@@ -45,31 +45,28 @@ images c = c.fill_images.new.images
 images-of : (c : After-explore) → ImagesOf (policy c) (images c)
 images-of c = c.fill_images.ensures
 
-numbers : (c : After-explore) → c.args.shape ≡ shape_of (policy c)
-numbers c = c.requires.buildable.numbers
-
 start_is : (c : After-explore) → c.start-start.result.set ≡ start_situation (policy c)
-start_is c = c.start-start.ensures ∙ ap (λ (s : Shape). insert s.start empty_set) (numbers c)
+start_is c = c.start-start.ensures ∙ ap (λ (s : Shape). insert s.start empty_set) c.args.policy.shape_is
 
 -- what exploring leaves where n situations are found, and where n is 0
 abbrev Explored : After-explore → ℕ → Type 0
 Explored c n =
-    Reaches (images_machine (images c) c.args.shape.valuations c.args.shape.width c.start-start.result.set) (replicate 128 0) c.args.raw.now n
+    Reaches (images_machine (images c) c.args.policy.shape.valuations c.args.policy.shape.width c.start-start.result.set) (replicate 128 0) c.args.raw.now n
     c.explore.new.found c.explore.new.raw
 
 reaches : (c : After-explore) (n : ℕ) → Explored c n
     → Reaches (images_machine (images c) (valuations (policy c)) (width (policy c)) (start_situation (policy c))) (replicate 128 0) c.args.raw.now n
     c.explore.new.found c.explore.new.raw
-reaches c n = reaches-by (policy c) (images c) (replicate 128 0) c.args.raw.now c.args.shape _ n _ _ (numbers c) (start_is c)
+reaches c n = reaches-by (policy c) (images c) (replicate 128 0) c.args.raw.now c.args.policy.shape _ n _ _ c.args.policy.shape_is (start_is c)
 
 raw-fits : (c : After-explore)
     → RowsFit (images_machine (images c) (valuations (policy c)) (width (policy c)) (start_situation (policy c))) (length c.args.raw.now)
 raw-fits c =
     situations_fit (policy c) (images c) (images-of c) (length c.args.raw.now)
-    (room (policy c) c.args.shape (length c.args.images.now) (length c.args.raw.now) (numbers c) c.requires.room).1
+    (room (policy c) c.args.policy.shape (length c.args.images.now) (length c.args.raw.now) c.args.policy.shape_is c.requires.room).1
 
-wide : (c : After-explore) → c.args.shape.width ≡ width (policy c)
-wide c = ap (λ (s : Shape). s.width) (numbers c)
+wide : (c : After-explore) → c.args.policy.shape.width ≡ width (policy c)
+wide c = ap (λ (s : Shape). s.width) c.args.policy.shape_is
 
 over : (c : After-explore) → Explored c 0 → 127 < length (situations (policy c))
 over c none = situations-over (policy c) (images c) (images-of c) (raw-fits c) (reaches c 0 none) refl
@@ -79,19 +76,20 @@ rows c n found = situation-rows (policy c) (images c) (images-of c) (raw-fits c)
 
 pub fill_images-requires : goal.fill_images-requires
 fill_images-requires c =
-    let policy = c.args.policy.now in
-    let fits = room policy c.args.shape (length c.args.images.now) (length c.args.raw.now) c.requires.buildable.numbers c.requires.room in
-    (has-passed policy c.requires.buildable.file, c.requires.buildable.numbers, fits.0)
+    let policy = c.args.policy in
+    let fits = room policy.bytes.now policy.shape (length c.args.images.now) (length c.args.raw.now) policy.shape_is c.requires.room in
+    (has-passed policy.bytes.now policy.passed, policy.shape_is, fits.0)
 
 pub start-start-requires : goal.start-start-requires
 start-start-requires c =
-    omega (arith, start-low c.args.policy.now c.requires.buildable.file, ap (λ (s : Shape). s.start) c.requires.buildable.numbers)
+    let policy = c.args.policy in
+    omega (arith, start-low policy.bytes.now policy.passed, ap (λ (s : Shape). s.start) policy.shape_is)
 
 pub invariant_of-table : goal.invariant_of-table
 invariant_of-table c =
-    let policy = c.args.policy.now in
-    let is = c.requires.buildable.numbers in
-    let file = c.requires.buildable.file in
+    let policy = c.args.policy.bytes.now in
+    let is = c.args.policy.shape_is in
+    let file = c.args.policy.passed in
     let few = ap (λ (s : Shape). s.valuations) is in
     let wide = ap (λ (s : Shape). s.width) is in record {
       within = (omega (arith, valuations-low policy file, few), omega (arith, width_low policy file, wide), omega (arith, c.fill_images.auto.images, c.requires.room.0));
@@ -99,37 +97,37 @@ invariant_of-table c =
 
 pub explore-requires : goal.explore-requires
 explore-requires c =
-    let policy = c.args.policy.now in
-    let is = c.requires.buildable.numbers in
+    let policy = c.args.policy.bytes.now in
+    let is = c.args.policy.shape_is in
     let begins = c.start-start.ensures ∙ ap (λ (s : Shape). insert s.start empty_set) is in record {
-      state = subst (λ (set : ℕ). 0 < set) (sym begins) (start-some policy c.requires.buildable.file);
-      room = (omega arith, fits_by policy c.fill_images.new.images c.args.shape _ (length c.args.raw.now) is begins c.fill_images.ensures c.requires.room.1);
+      state = subst (λ (set : ℕ). 0 < set) (sym begins) (start-some policy c.args.policy.passed);
+      room = (omega arith, fits_by policy c.fill_images.new.images c.args.policy.shape _ (length c.args.raw.now) is begins c.fill_images.ensures c.requires.room.1);
     }
 
 pub returns-in_default : goal.returns-in_default
 returns-in_default c =
     let a = c.args in
-    let b = c.requires.buildable in
-    let all = build_refused a.policy.now a.book.now 11 (λ e. omega arith)
-    (refused-by-11 a.policy.now a.book.now b.room b.file (over (goal.at.returns-in_default c).After-explore c.in_default.ensures)) in
+    let p = a.policy.bytes.now in
+    let all = build_refused p a.book.now 11 (λ e. omega arith)
+    (refused-by-11 p a.book.now c.requires.holds_any_book a.policy.passed (over (goal.at.returns-in_default c).After-explore c.in_default.ensures)) in
     record { answer = all.0; book = all.1 }
 
 pub write_book-requires : goal.write_book-requires
 write_book-requires c =
-    let b = c.requires.buildable in
+    let policy = c.args.policy in
     let t = rows (goal.at.write_book-requires c).After-explore c.in-Some.n c.in-Some.ensures in
-    let low = book-fits c.args.policy.now b.file c.in-Some.n t.few in
-    rw (numbers (goal.at.write_book-requires c).After-explore) record {
-      table_in = (t.is_table, t.few, t.ordered, omega (arith, b.room));
-      in_bounds = header_read c.args.policy.now b.file;
+    let low = book-fits policy.bytes.now policy.passed c.in-Some.n t.few in
+    rw policy.shape_is record {
+      table_in = (t.is_table, t.few, t.ordered, omega (arith, c.requires.holds_any_book));
+      in_bounds = header_read policy.bytes.now policy.passed;
     }
 
 pub returns : goal.returns
 returns c =
     let a = c.args in
-    let r = c.requires.buildable in
+    let p = a.policy.bytes.now in
     let t = rows (goal.at.returns c).After-explore c.in-Some.n c.in-Some.ensures in
     let b = c.write_book.ensures in
-    let all = build_given a.policy.now a.book.now c.explore.new.raw c.in-Some.n (wide (goal.at.returns c).After-explore)
-    (refused-by-none a.policy.now a.book.now r.room r.file t.count) t.rows b.value b.book_after in
+    let all = build_given p a.book.now c.explore.new.raw c.in-Some.n (wide (goal.at.returns c).After-explore)
+    (refused-by-none p a.book.now c.requires.holds_any_book a.policy.passed t.count) t.rows b.value b.book_after in
     record { answer = all.0; book = all.1 }
