@@ -27,6 +27,7 @@ pub struct Search<const N: usize, const M: usize> {
 impl<const N: usize, const M: usize> Search<N, M> {
     ghost use Rattle.automaton.specs.Explore.{add};
     ghost use Rattle.definitions.specs.Answer.{written};
+    ghost use Rattle.definitions.specs.Bytes.{byte};
     ghost use Rattle.definitions.specs.Book as B;
     ghost use Rattle.search.specs.Found.{SmallTable, started, states_of, book_states};
     ghost use Rattle.search.specs.Searched.{found_by, state_of, history_of, visited_at, CanVisit};
@@ -69,6 +70,14 @@ impl<const N: usize, const M: usize> Search<N, M> {
         ensures { result ≡ state_of self.now place }
     {
         usize::from(self.order[place])
+    }
+
+    // The number of a state among those found, counted from 1; 0 where it is not found, and 1 for 0, which is no state.
+    pub fn number(&self, state: usize) -> usize
+        requires { state < N }
+        ensures { result ≡ byte self.now.numbers state }
+    {
+        usize::from(self.numbers[state])
     }
 
     // The place of the state that the one at a place was found from.

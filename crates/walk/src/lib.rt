@@ -2,11 +2,11 @@
 // 16 (the state, the request, the code), which is decided here and stated in definitions/specs/Opened.antt.
 #![tactic(auto)]
 
-ghost use Rattle.std.specs.Prelude.{◌≡◌, true, ◌≤◌, IfOk};
+ghost use Rattle.std.specs.Prelude.{◌≡◌, true, ◌≤◌, IfOk, OnErr};
 ghost use Rattle.definitions.specs.Opened.{state_holds, open_refusal, tell_answer, step_refusal, step_state};
 ghost use Rattle.book.specs.Tellings.{telling_of};
 ghost use Rattle.refusal.specs.Refused.{refusal_in, answer_in};
-ghost use Rattle.walk.specs.Walk.{state_refusal};
+ghost use Rattle.walk.specs.Walk.{open_state, state_refusal};
 
 use book::{Book, Telling};
 use bookcheck::check;
@@ -16,6 +16,7 @@ use refusal::Refusal;
 pub fn open(bytes: &[u8]) -> Result<usize, Refusal>
     ensures refusal { refusal_in result ≡ open_refusal bytes.now }
     ensures state { IfOk result (λ state. state ≡ 1) }
+    ensures closed { OnErr result (open_state bytes.now ≡ 0) }
 {
     let _book = check(bytes)?;
     Ok(1)
@@ -36,6 +37,7 @@ pub fn tell(bytes: &[u8], state: usize, request: usize) -> Result<Telling, Refus
 pub fn step(bytes: &[u8], state: usize, code: usize) -> Result<usize, Refusal>
     ensures refusal { refusal_in result ≡ step_refusal bytes.now state code }
     ensures state { IfOk result (λ there. there ≡ step_state bytes.now state code) }
+    ensures unchanged { OnErr result (step_state bytes.now state code ≡ state) }
 {
     let walked = book_at(bytes, state)?;
     if code >= walked.width {

@@ -8,7 +8,7 @@ use Rattle.definitions.specs.Book.{width, states, book_machine}
 use Rattle.definitions.proofs.Tests.{within-true}
 use Rattle.definitions.proofs.BookSteps.{step-is-entry}
 use Rattle.refusal.proofs.Refused.{some_number}
-use Rattle.walk.proofs.CallCases.{state-passes, step-err, step-outside, step-taken}
+use Rattle.walk.proofs.CallCases.{state-passes, step-err, step-outside, step-taken, stays}
 use Rattle.walk.proofs.step.Goals.{After-entry-there}
 use Rattle.walk.proofs.step.Goals as goal
 
@@ -27,19 +27,28 @@ returns-in_err-walked-clause-refusal c =
     let p = err_from_is_err_and c.from_residual.result c.from_residual.ensures.1 in
     rw (p.1, p.2) (step-err c.args.bytes.now c.args.state c.args.code _ (some_number c.in_err-walked.field-0.0) c.in_err-walked.ensures.refusal)
 
-pub returns-then-code-walked-clause-refusal : goal.returns-then-code-walked-clause-refusal
-returns-then-code-walked-clause-refusal c =
+pub returns-in_err-walked-clause-unchanged : goal.returns-in_err-walked-clause-unchanged
+returns-in_err-walked-clause-unchanged c =
+    let p = err_from_is_err_and c.from_residual.result c.from_residual.ensures.1 in
+    let a = c.args in
+    let some = some_number c.in_err-walked.field-0.0 in
+    rw p.1 (sym (stays a.bytes.now a.state a.code (rw (step-err a.bytes.now a.state a.code _ some c.in_err-walked.ensures.refusal) at some)))
+
+pub returns-then-code-walked : goal.returns-then-code-walked
+returns-then-code-walked c =
     let a = c.args in
     let h = c.in_ok-walked.ensures in
     let e = rw h.book.0 at c.in_ok-walked.walked.width_is in
     let beyond : width a.bytes.now ≤ a.code = omega (arith, e, c.if-code-walked.true) in
-    (step-outside a.bytes.now a.state a.code (state-passes a.bytes.now a.state h.refusal) (simp (le-ltb a.code (width a.bytes.now) beyond, and-false))).0
+    let p = step-outside a.bytes.now a.state a.code (state-passes a.bytes.now a.state h.refusal) (simp (le-ltb a.code (width a.bytes.now) beyond, and-false)) in
+    record { refusal = p.0; state = tt; unchanged = sym p.1 }
 
-pub returns-then-there-eq0-clause-refusal : goal.returns-then-there-eq0-clause-refusal
-returns-then-there-eq0-clause-refusal c =
+pub returns-then-there-eq0 : goal.returns-then-there-eq0
+returns-then-there-eq0 c =
     let a = c.args in
     let h = c.in_ok-walked.ensures in
-    (step-outside a.bytes.now a.state a.code (state-passes a.bytes.now a.state h.refusal) (simp (ap is_state (taken (goal.at.returns-then-there-eq0-clause-refusal c).After-entry-there ∙ c.if-there-eq0.true), and-false))).0
+    let p = step-outside a.bytes.now a.state a.code (state-passes a.bytes.now a.state h.refusal) (simp (ap is_state (taken (goal.at.returns-then-there-eq0 c).After-entry-there ∙ c.if-there-eq0.true), and-false)) in
+    record { refusal = p.0; state = tt; unchanged = sym p.1 }
 
 pub returns : goal.returns
 returns c =
@@ -49,4 +58,4 @@ returns c =
     let below : a.code < width a.bytes.now = omega (arith, e, c.if-code-walked.false) in
     let p = step-taken a.bytes.now a.state a.code c.entry-there.result (state-passes a.bytes.now a.state h.refusal) h.book.1 below
     (sym (taken (goal.at.returns c).After-entry-there)) c.if-there-eq0.false in
-    record { refusal = p.0; state = p.1 }
+    record { refusal = p.0; state = p.1; unchanged = tt }
