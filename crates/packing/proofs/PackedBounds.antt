@@ -5,6 +5,8 @@ use Prim.Native.Nat.{ℕ, ◌*◌, ◌≤◌}
 use native.Mathlib.Omega.{arith}
 use lib.Dec.{leb}
 use lib.ListN.{length, take}
+use Rattle.std.specs.Prelude.{Option, Some, None, Result, Ok, Err}
+use Rattle.refusal.specs.declared.Refusal.{Refusal}
 use Rattle.definitions.specs.Answer.{given}
 use Rattle.definitions.specs.Book.{states}
 use Rattle.definitions.specs.Refusal.{policy_refusal, Accepted, book_refusal}
@@ -17,14 +19,10 @@ use Rattle.definitions.proofs.Answers.{answer-given}
 use Rattle.definitions.proofs.Written.{length_taken}
 use Rattle.definitions.proofs.Demands.{page-right}
 use Rattle.build.specs.BuiltAnswer.{built_answer}
-use Rattle.build.specs.declared.Built.{Built}
 use Rattle.page.specs.PageAnswer.{paged_answer}
-use Rattle.page.specs.declared.Paged.{Paged}
 use Rattle.way.specs.ShownAnswer.{shown_answer}
-use Rattle.way.specs.declared.first.Shown.{Shown}
 use Rattle.way.proofs.WayAnswers.{way_small}
 use Rattle.compare.specs.ComparedAnswer.{compared_answer}
-use Rattle.compare.specs.declared.Compared.{Compared}
 use Rattle.compare.proofs.ComparedAnswer.{difference_small}
 use Rattle.packing.proofs.RefusalBounds.{book_small}
 use Rattle.packing.specs.PackedBounds.{BuiltWithin, PagedWithin, ShownWithin, ComparedWithin}
@@ -41,9 +39,9 @@ module _ (p buffer : List ℕ) where
       let is = answer-given (build_refusal p buffer) n (length (book_of p)) e in
       subst⁻¹ (λ (k : ℕ). k ≤ 17284) is.1 (book_small p (passed is.0))
 
-  pub built_within : (r : Built) → built_answer r ≡ build_answer p buffer → BuiltWithin 17284 r
-  built_within (Built.Refused number) e = tt
-  built_within (Built.Written n) e = book-given n e
+  pub built_within : (r : Result ℕ Refusal) → built_answer r ≡ build_answer p buffer → BuiltWithin 17284 r
+  built_within (Err refusal) e = tt
+  built_within (Ok n) e = book-given n e
 
 -- ---- page
 module _ (b buffer : List ℕ) where
@@ -57,26 +55,26 @@ module _ (b buffer : List ℕ) where
       let is = answer-given (page_refusal b buffer) n (states b * 73) e in
       subst⁻¹ (λ (k : ℕ). k ≤ 9271) is.1 (page_small is.0)
 
-  pub paged_within : (r : Paged) → paged_answer r ≡ page_answer b buffer → PagedWithin 9271 r
-  paged_within (Paged.Refused number) e = tt
-  paged_within (Paged.Written n) e = page-given n e
+  pub paged_within : (r : Result ℕ Refusal) → paged_answer r ≡ page_answer b buffer → PagedWithin 9271 r
+  paged_within (Err refusal) e = tt
+  paged_within (Ok n) e = page-given n e
 
 -- ---- way
-pub shown-within : (b : List ℕ) (r outcome : ℕ) (buffer : List ℕ) (shown : Shown) (after : List ℕ) → length after ≡ length buffer
+pub shown-within : (b : List ℕ) (r outcome : ℕ) (buffer : List ℕ) (shown : Result (Option ℕ) Refusal) (after : List ℕ) → length after ≡ length buffer
     → shown_answer shown after ≡ way_answer b r outcome buffer → ShownWithin 128 shown × ShownWithin (length after) shown
-shown-within b r outcome buffer (Shown.Refused number) after same e = (tt, tt)
-shown-within b r outcome buffer Shown.NoHistory after same e = (tt, tt)
-shown-within b r outcome buffer (Shown.After n) after same e =
+shown-within b r outcome buffer (Err refusal) after same e = (tt, tt)
+shown-within b r outcome buffer (Ok None) after same e = (tt, tt)
+shown-within b r outcome buffer (Ok (Some n)) after same e =
     let small = way_small b r outcome buffer (take n after) e in
     let is = length_taken n after (omega arith) in
     (omega arith, omega arith)
 
 -- ---- compare
-pub compared-within : (b d buffer : List ℕ) (r : Compared) (after : List ℕ) → length after ≡ length buffer → compared_answer r after ≡ compare_answer b d buffer
+pub compared-within : (b d buffer : List ℕ) (r : Result (Option ℕ) Refusal) (after : List ℕ) → length after ≡ length buffer → compared_answer r after ≡ compare_answer b d buffer
     → ComparedWithin 256 r × ComparedWithin (length after) r
-compared-within b d buffer (Compared.Refused number) after same e = (tt, tt)
-compared-within b d buffer Compared.Same after same e = (tt, tt)
-compared-within b d buffer (Compared.Differ n) after same e =
+compared-within b d buffer (Err refusal) after same e = (tt, tt)
+compared-within b d buffer (Ok None) after same e = (tt, tt)
+compared-within b d buffer (Ok (Some n)) after same e =
     let small = difference_small b d buffer (take n after) e in
     let is = length_taken n after (omega arith) in
     (omega arith, omega arith)

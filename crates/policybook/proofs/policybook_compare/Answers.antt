@@ -2,16 +2,15 @@
 use lib.ListN.{length}
 use Rattle.packing.specs.PackedBounds.{ComparedWithin}
 use Rattle.packing.proofs.PackedBounds.{compared-within}
-use borrow.Author.Rules.{rules}
 use Rattle.policybook.proofs.policybook_compare.Goals.{After-compare}
 use Rattle.policybook.proofs.policybook_compare.Goals as goal
 
 within : (c : After-compare) → ComparedWithin 256 c.compare.result × ComparedWithin (length c.compare.new.history) c.compare.result
-within c = compared-within _ _ _ c.compare.result c.compare.new.history c.compare.auto.history c.compare.ensures.history_after
+within c = compared-within _ _ _ c.compare.result c.compare.new.history c.compare.auto.history c.compare.ensures.answer
 
 pub pack_compare-requires : goal.pack_compare-requires
 pack_compare-requires c = (within (goal.at.pack_compare-requires c).After-compare).0
 
 pub returns : goal.returns
 returns c =
-    let called = c.compare in record { value = rw (← called.ensures.history_after) (c.pack_compare.ensures called.new.history (within (goal.at.returns c).After-compare).1); history_after = called.ensures.history_after_2 }
+    let called = c.compare in record { value = rw (← called.ensures.answer) (c.pack_compare.ensures called.new.history (within (goal.at.returns c).After-compare).1); history_after = called.ensures.history }

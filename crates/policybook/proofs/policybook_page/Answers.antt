@@ -1,11 +1,10 @@
 -- `policybook_page` meets its contract: a page is small enough for its length to be packed.
 use Rattle.packing.proofs.PackedBounds.{paged_within}
-use borrow.Author.Rules.{rules}
 use Rattle.policybook.proofs.policybook_page.Goals as goal
 
 pub pack_page-requires : goal.pack_page-requires
-pack_page-requires c = paged_within _ _ c.page.result c.page.ensures.result_value
+pack_page-requires c = paged_within _ _ c.page.result c.page.ensures.answer
 
 pub returns : goal.returns
 returns c =
-    let called = c.page in record { value = rw (← called.ensures.result_value) c.pack_page.ensures; page_after = called.ensures.page_after }
+    let called = c.page in record { value = rw (← called.ensures.answer) c.pack_page.ensures; page_after = called.ensures.page_after }

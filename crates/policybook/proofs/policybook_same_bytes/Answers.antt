@@ -1,6 +1,5 @@
 -- `policybook_same_bytes` meets its contract.
 use mathlib.Core.Path.{ap, ◌∙◌}
-use borrow.Author.Rules.{rules}
 use Rattle.packing.specs.Packing.{equal_or_not}
 use Rattle.policybook.proofs.policybook_same_bytes.Goals as goal
 

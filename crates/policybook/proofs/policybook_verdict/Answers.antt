@@ -2,7 +2,6 @@
 use lib.ListN.{length}
 use Rattle.verdict.specs.AnswerBounds.{JudgedWithin}
 use Rattle.verdict.proofs.AnswerBounds.{judged-within}
-use borrow.Author.Rules.{rules}
 use Rattle.policybook.proofs.policybook_verdict.Goals.{After-verdict}
 use Rattle.policybook.proofs.policybook_verdict.Goals as goal
 
@@ -11,7 +10,7 @@ within : (c : After-verdict)
 within c =
     let after = c.verdict.new in
     let kept = c.verdict.auto in
-    judged-within _ _ _ _ c.verdict.result after.conflict after.missing after.blocked kept.conflict kept.missing kept.blocked c.verdict.ensures.blocked_after
+    judged-within _ _ _ _ c.verdict.result after.conflict after.missing after.blocked kept.conflict kept.missing kept.blocked c.verdict.ensures.answer
 
 pub pack_verdict-requires : goal.pack_verdict-requires
 pack_verdict-requires c = (within (goal.at.pack_verdict-requires c).After-verdict).0
@@ -20,6 +19,6 @@ pub returns : goal.returns
 returns c =
     let called = c.verdict in
     let new = called.new in record {
-      value = rw (← called.ensures.blocked_after) (c.pack_verdict.ensures new.conflict new.missing new.blocked (within (goal.at.returns c).After-verdict).1);
-      blocked_after = called.ensures.blocked_after_2;
+      value = rw (← called.ensures.answer) (c.pack_verdict.ensures new.conflict new.missing new.blocked (within (goal.at.returns c).After-verdict).1);
+      blocked_after = called.ensures.buffers;
     }

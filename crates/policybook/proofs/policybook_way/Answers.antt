@@ -2,16 +2,15 @@
 use lib.ListN.{length}
 use Rattle.packing.specs.PackedBounds.{ShownWithin}
 use Rattle.packing.proofs.PackedBounds.{shown-within}
-use borrow.Author.Rules.{rules}
 use Rattle.policybook.proofs.policybook_way.Goals.{After-way}
 use Rattle.policybook.proofs.policybook_way.Goals as goal
 
 within : (c : After-way) → ShownWithin 128 c.way.result × ShownWithin (length c.way.new.history) c.way.result
-within c = shown-within _ _ _ _ c.way.result c.way.new.history c.way.auto.history c.way.ensures.history_after
+within c = shown-within _ _ _ _ c.way.result c.way.new.history c.way.auto.history c.way.ensures.answer
 
 pub pack_way-requires : goal.pack_way-requires
 pack_way-requires c = (within (goal.at.pack_way-requires c).After-way).0
 
 pub returns : goal.returns
 returns c =
-    let called = c.way in record { value = rw (← called.ensures.history_after) (c.pack_way.ensures called.new.history (within (goal.at.returns c).After-way).1); history_after = called.ensures.history_after_2 }
+    let called = c.way in record { value = rw (← called.ensures.answer) (c.pack_way.ensures called.new.history (within (goal.at.returns c).After-way).1); history_after = called.ensures.history }
