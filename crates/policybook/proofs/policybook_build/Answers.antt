@@ -4,7 +4,3 @@ use Rattle.policybook.proofs.policybook_build.Goals as goal
 
 pub pack_build-requires : goal.pack_build-requires
 pack_build-requires c = built_within _ _ c.build.result c.build.ensures.answer
-
-pub returns : goal.returns
-returns c =
-    let called = c.build in record { value = rw (← called.ensures.answer) c.pack_build.ensures; book_after = called.ensures.book }

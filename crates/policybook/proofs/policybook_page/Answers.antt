@@ -4,7 +4,3 @@ use Rattle.policybook.proofs.policybook_page.Goals as goal
 
 pub pack_page-requires : goal.pack_page-requires
 pack_page-requires c = paged_within _ _ c.page.result c.page.ensures.answer
-
-pub returns : goal.returns
-returns c =
-    let called = c.page in record { value = rw (← called.ensures.answer) c.pack_page.ensures; page_after = called.ensures.page_after }
