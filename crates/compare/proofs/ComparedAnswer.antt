@@ -1,11 +1,11 @@
 -- The answer and the buffer of `compare` from what was found. Its contract leaves nothing free: what is returned is told by document 01's answer, and a
 -- history's length is what the result holds.
 use mathlib.Core.Path.{◌≡◌, refl, ap, sym, ◌∙◌}
-use mathlib.Core.List.{List, [], ◌∷◌}
+use mathlib.Core.List.{List}
 use mathlib.Core.Option as Maybe
-use Prim.Native.Nat.{ℕ, ◌-◌, ◌≤◌, ◌<◌}
+use Prim.Native.Nat.{ℕ, ◌≤◌, ◌<◌}
 use native.Mathlib.Omega.{arith}
-use lib.ListN.{length, get_or, set, take}
+use lib.ListN.{length, set, take}
 use Rattle.std.specs.Prelude.{Option, None, Some, Result, Ok, Err}
 use Rattle.automaton.specs.History.{History}
 use Rattle.definitions.specs.Answer.{Answer, refused, given, written, history_bytes}
@@ -17,9 +17,8 @@ use Rattle.definitions.proofs.Answers.{given-answer, refused_buffer, given-buffe
 use Rattle.definitions.proofs.Accepted.{book-passed}
 use Rattle.definitions.proofs.Comparisons.{compare_right}
 use Rattle.refusal.specs.declared.Refusal.{Refusal}
-use Rattle.refusal.specs.declared.Refusal.TheVariants.{ShortBuffer, ShortPolicy, PolicyMark, PolicyVersion, PolicyRange, PolicyLength, ValueCount, Mask, RuleValue, Valuations, Situations, BookHeader, BookLayout, BookEntry, Frames, NotInBook, Start, UnknownOutcome}
 use Rattle.refusal.specs.Refused.{number_of}
-use Rattle.refusal.proofs.Refused.{some_number, answer-err}
+use Rattle.refusal.proofs.Refused.{some_number, answer-err, refusal_of, refusal-is}
 use Rattle.search.specs.Trail.{history_at}
 use Rattle.search.proofs.Trails.{history-short}
 use Rattle.comparepairs.specs.PairSearch.{Traced, difference_at}
@@ -50,32 +49,6 @@ pub difference-written : (trail : List ℕ) (i c n : ℕ) (buffer after : List �
 difference-written trail i c n buffer after t room en ea =
     let short = history-short trail i t.falls in
     let h = history_at trail i in rw (ea, en) (written_next h buffer (length h) c refl (omega (arith, t.few)))
-
--- ---- the refusal with a number
-abbrev pub refusal_of : ℕ → Refusal
-refusal_of number =
-    get_or (ShortBuffer ∷ ShortPolicy ∷ PolicyMark ∷ PolicyVersion ∷ PolicyRange ∷ PolicyLength ∷ ValueCount ∷ Mask ∷ RuleValue ∷ Valuations ∷ Situations
-    ∷ BookHeader ∷ BookLayout ∷ BookEntry ∷ Frames ∷ NotInBook ∷ Start ∷ []) (number - 1) UnknownOutcome
-
-refusal-is : (r : Refusal) → r ≡ refusal_of (number_of r)
-refusal-is ShortBuffer = refl
-refusal-is ShortPolicy = refl
-refusal-is PolicyMark = refl
-refusal-is PolicyVersion = refl
-refusal-is PolicyRange = refl
-refusal-is PolicyLength = refl
-refusal-is ValueCount = refl
-refusal-is Mask = refl
-refusal-is RuleValue = refl
-refusal-is Valuations = refl
-refusal-is Situations = refl
-refusal-is BookHeader = refl
-refusal-is BookLayout = refl
-refusal-is BookEntry = refl
-refusal-is Frames = refl
-refusal-is NotInBook = refl
-refusal-is Start = refl
-refusal-is UnknownOutcome = refl
 
 -- ---- nothing is free
 abbrev pub compared_of : Answer (Maybe.Option History) → Result (Option ℕ) Refusal

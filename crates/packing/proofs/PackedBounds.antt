@@ -5,8 +5,7 @@ use Prim.Native.Nat.{ℕ, ◌*◌, ◌≤◌}
 use native.Mathlib.Omega.{arith}
 use lib.Dec.{leb}
 use lib.ListN.{length, take}
-use Rattle.std.specs.Prelude.{Option, Some, None, Result, Ok, Err}
-use Rattle.refusal.specs.declared.Refusal.{Refusal}
+use Rattle.std.specs.Prelude.{Option, None, Some, Result, Ok, Err}
 use Rattle.definitions.specs.Answer.{given}
 use Rattle.definitions.specs.Book.{states}
 use Rattle.definitions.specs.Refusal.{policy_refusal, Accepted, book_refusal}
@@ -18,6 +17,7 @@ use Rattle.definitions.proofs.Tests.{judge-zero}
 use Rattle.definitions.proofs.Answers.{answer-given}
 use Rattle.definitions.proofs.Written.{length_taken}
 use Rattle.definitions.proofs.Demands.{page-right}
+use Rattle.refusal.specs.declared.Refusal.{Refusal}
 use Rattle.build.specs.BuiltAnswer.{built_answer}
 use Rattle.page.specs.PageAnswer.{paged_answer}
 use Rattle.way.specs.ShownAnswer.{shown_answer}
@@ -25,7 +25,7 @@ use Rattle.way.proofs.WayAnswers.{way_small}
 use Rattle.compare.specs.ComparedAnswer.{compared_answer}
 use Rattle.compare.proofs.ComparedAnswer.{difference_small}
 use Rattle.packing.proofs.RefusalBounds.{book_small}
-use Rattle.packing.specs.PackedBounds.{BuiltWithin, PagedWithin, ShownWithin, ComparedWithin}
+use Rattle.packing.specs.PackedBounds.{LengthWithin, HistoryWithin}
 
 -- ---- build
 module _ (p buffer : List ℕ) where
@@ -39,7 +39,7 @@ module _ (p buffer : List ℕ) where
       let is = answer-given (build_refusal p buffer) n (length (book_of p)) e in
       subst⁻¹ (λ (k : ℕ). k ≤ 17284) is.1 (book_small p (passed is.0))
 
-  pub built_within : (r : Result ℕ Refusal) → built_answer r ≡ build_answer p buffer → BuiltWithin 17284 r
+  pub built_within : (r : Result ℕ Refusal) → built_answer r ≡ build_answer p buffer → LengthWithin 17284 r
   built_within (Err refusal) e = tt
   built_within (Ok n) e = book-given n e
 
@@ -55,13 +55,13 @@ module _ (b buffer : List ℕ) where
       let is = answer-given (page_refusal b buffer) n (states b * 73) e in
       subst⁻¹ (λ (k : ℕ). k ≤ 9271) is.1 (page_small is.0)
 
-  pub paged_within : (r : Result ℕ Refusal) → paged_answer r ≡ page_answer b buffer → PagedWithin 9271 r
+  pub paged_within : (r : Result ℕ Refusal) → paged_answer r ≡ page_answer b buffer → LengthWithin 17284 r
   paged_within (Err refusal) e = tt
-  paged_within (Ok n) e = page-given n e
+  paged_within (Ok n) e = omega (arith, page-given n e)
 
 -- ---- way
 pub shown-within : (b : List ℕ) (r outcome : ℕ) (buffer : List ℕ) (shown : Result (Option ℕ) Refusal) (after : List ℕ) → length after ≡ length buffer
-    → shown_answer shown after ≡ way_answer b r outcome buffer → ShownWithin 128 shown × ShownWithin (length after) shown
+    → shown_answer shown after ≡ way_answer b r outcome buffer → HistoryWithin 128 shown × HistoryWithin (length after) shown
 shown-within b r outcome buffer (Err refusal) after same e = (tt, tt)
 shown-within b r outcome buffer (Ok None) after same e = (tt, tt)
 shown-within b r outcome buffer (Ok (Some n)) after same e =
@@ -70,8 +70,8 @@ shown-within b r outcome buffer (Ok (Some n)) after same e =
     (omega arith, omega arith)
 
 -- ---- compare
-pub compared-within : (b d buffer : List ℕ) (r : Result (Option ℕ) Refusal) (after : List ℕ) → length after ≡ length buffer → compared_answer r after ≡ compare_answer b d buffer
-    → ComparedWithin 256 r × ComparedWithin (length after) r
+pub compared-within : (b d buffer : List ℕ) (r : Result (Option ℕ) Refusal) (after : List ℕ) → length after ≡ length buffer
+    → compared_answer r after ≡ compare_answer b d buffer → HistoryWithin 256 r × HistoryWithin (length after) r
 compared-within b d buffer (Err refusal) after same e = (tt, tt)
 compared-within b d buffer (Ok None) after same e = (tt, tt)
 compared-within b d buffer (Ok (Some n)) after same e =

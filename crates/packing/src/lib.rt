@@ -2,106 +2,98 @@
 #![tactic(auto)]
 
 ghost use Rattle.std.specs.Prelude.{◌≡◌, List, ℕ, ◌*◌, ◌^◌, ◌<◌, length, IfOk, MatchResult};
-ghost use Rattle.refusal.specs.Refused.{number_of};
 ghost use Rattle.build.specs.BuiltAnswer.{built_answer};
-ghost use Rattle.page.specs.PageAnswer.{paged_answer};
 ghost use Rattle.findings.specs.FindingsOf.{found_of, blocked_of, findings_of};
 ghost use Rattle.verdict.specs.VerdictAnswer.{judged_answer};
 ghost use Rattle.verdict.specs.AnswerBounds.{BlockedWithin, FindingWithin, FindingsWithin, JudgedWithin};
 ghost use Rattle.way.specs.ShownAnswer.{shown_answer};
 ghost use Rattle.compare.specs.ComparedAnswer.{compared_answer};
-ghost use Rattle.packing.specs.Packing.{packed, equal_or_not, book_length, page_length, length_or_none, found_value, findings_value, history_length};
-ghost use Rattle.packing.specs.PackedBounds.{BuiltWithin, PagedWithin, ShownWithin, ComparedWithin};
+ghost use Rattle.refusal.specs.Refused.{number_of};
+ghost use Rattle.packing.specs.Packing.{packed, equal_or_not, book_length, findings_value, found_value, history_length, length_or_none};
+ghost use Rattle.packing.specs.PackedBounds.{LengthWithin, HistoryWithin};
 
 use findings::{Findings, Found};
 use refusal::Refusal;
 
-// The number of a refusal, or 256 times the value of what was answered.
-fn pack<T, V: FnOnce(T) -> u64>(answer: Result<T, Refusal>, value: V) -> u64
-    requires { IfOk answer (λ given. V.pre value given × ((n : ℕ) → V.post value given n → n < 2 ^ 56)) }
-    ensures { MatchResult answer (λ given. (n : ℕ) × V.post value given n × (result ≡ 256 * n)) (λ refusal. result ≡ number_of refusal) }
+// The number of a refusal, or 256 times a value.
+fn pack<T, F: FnOnce(T) -> u64>(answer: Result<T, Refusal>, value: F) -> u64
+    requires callable { IfOk answer (λ x. F.pre value x) }
+    requires small { IfOk answer (λ x. (v : ℕ) → F.post value x v → v < 2 ^ 56) }
+    ensures { MatchResult answer (λ x. (v : ℕ) × F.post value x v × (result ≡ 256 * v)) (λ refusal. result ≡ number_of refusal) }
 {
     match answer {
-        Ok(given) => 256 * value(given),
+        Ok(x) => 256 * value(x),
         Err(refusal) => u64::from(refusal.number()),
     }
 }
 
-// The number for what build returns.
-pub fn pack_build(built: Result<usize, Refusal>) -> u64
-    requires { BuiltWithin 17284 built }
-    ensures { result ≡ packed book_length (built_answer built) }
+// The number for what build or page returns: the value is the length of what was written.
+pub fn pack_length(answer: Result<usize, Refusal>) -> u64
+    requires { LengthWithin 17284 answer }
+    ensures { result ≡ packed book_length (built_answer answer) }
 {
-    pack(built, |length| length as u64)
+    pack(answer, |length| length as u64)
 }
 
-// The number for what writing a page returns.
-pub fn pack_page(paged: Result<usize, Refusal>) -> u64
-    requires { PagedWithin 9271 paged }
-    ensures { result ≡ packed page_length (paged_answer paged) }
+// The value for a history that may be none: 0, else one more than its length.
+fn length_or_none(found: Option<usize>) -> u64
+    requires { BlockedWithin 128 found }
+    ensures value { (buffer : List ℕ) → BlockedWithin (length buffer) found → result ≡ length_or_none (blocked_of found buffer) }
+    ensures byte { result < 2 ^ 8 }
 {
-    pack(paged, |length| length as u64)
-}
-
-// The value of way, and the bits for blocked: 0 for no history, else one more than its length.
-fn length_value(history: Option<usize>) -> u64
-    requires { BlockedWithin 128 history }
-    ensures of_history { (buffer : List ℕ) → BlockedWithin (length buffer) history → result ≡ length_or_none (blocked_of history buffer) }
-    ensures fits { result < 2 ^ 8 }
-{
-    history.map_or(0, |length| length as u64 + 1)
+    match found {
+        None => 0,
+        Some(length) => length as u64 + 1,
+    }
 }
 
 // The number for what way returns.
-pub fn pack_way(shown: Result<Option<usize>, Refusal>) -> u64
-    requires { ShownWithin 128 shown }
-    ensures { (buffer : List ℕ) → ShownWithin (length buffer) shown → result ≡ packed length_or_none (shown_answer shown buffer) }
+pub fn pack_way(answer: Result<Option<usize>, Refusal>) -> u64
+    requires { HistoryWithin 128 answer }
+    ensures { (buffer : List ℕ) → HistoryWithin (length buffer) answer → result ≡ packed length_or_none (shown_answer answer buffer) }
 {
-    pack(shown, length_value)
+    pack(answer, |found| length_or_none(found))
 }
 
-// The bits for conflict or missing: the same, and the request in the next eight.
+// The value for conflict or missing: that for its history, and the request in the next eight bits.
 fn finding_value(finding: Option<Found>) -> u64
     requires { FindingWithin 128 finding }
-    ensures of_finding { (buffer : List ℕ) → FindingWithin (length buffer) finding → result ≡ found_value (found_of finding buffer) }
-    ensures fits { result < 2 ^ 16 }
+    ensures value { (buffer : List ℕ) → FindingWithin (length buffer) finding → result ≡ found_value (found_of finding buffer) }
+    ensures two_bytes { result < 2 ^ 16 }
 {
-    finding.map_or(
-        0,
-        |found| found.length as u64 + 1 + 256 * (found.request as u64),
-    )
+    match finding {
+        None => 0,
+        Some(found) => found.length as u64 + 1 + 256 * (found.request as u64),
+    }
 }
 
 // The three findings in one value; x, y and z stand for the buffers of conflict, missing and blocked.
 fn findings_value(findings: Findings) -> u64
     requires { FindingsWithin 128 128 128 findings }
-    ensures of_findings { (x y z : List ℕ) → FindingsWithin (length x) (length y) (length z) findings
+    ensures value { (x y z : List ℕ) → FindingsWithin (length x) (length y) (length z) findings
         → result ≡ findings_value (findings_of findings x y z) }
-    ensures fits { result < 2 ^ 40 }
+    ensures five_bytes { result < 2 ^ 40 }
 {
     let first = finding_value(findings.conflict);
     let second = 65536 * finding_value(findings.missing);
-    let third = 4294967296 * length_value(findings.blocked);
+    let third = 4294967296 * length_or_none(findings.blocked);
     first + second + third
 }
 
 // The number for what verdict returns.
-pub fn pack_verdict(judged: Result<Findings, Refusal>) -> u64
-    requires { JudgedWithin 128 128 128 judged }
-    ensures { (x y z : List ℕ) → JudgedWithin (length x) (length y) (length z) judged → result ≡ packed findings_value (judged_answer judged x y z) }
+pub fn pack_verdict(answer: Result<Findings, Refusal>) -> u64
+    requires { JudgedWithin 128 128 128 answer }
+    ensures { (x y z : List ℕ) → JudgedWithin (length x) (length y) (length z) answer → result ≡ packed findings_value (judged_answer answer x y z) }
 {
-    pack(judged, findings_value)
+    pack(answer, |findings| findings_value(findings))
 }
 
 // The number for what compare returns.
-pub fn pack_compare(compared: Result<Option<usize>, Refusal>) -> u64
-    requires { ComparedWithin 256 compared }
-    ensures { (buffer : List ℕ) → ComparedWithin (length buffer) compared → result ≡ packed history_length (compared_answer compared buffer) }
+pub fn pack_compare(answer: Result<Option<usize>, Refusal>) -> u64
+    requires { HistoryWithin 256 answer }
+    ensures { (buffer : List ℕ) → HistoryWithin (length buffer) answer → result ≡ packed history_length (compared_answer answer buffer) }
 {
-    pack(
-        compared,
-        |history| history.map_or(0, |length| length as u64),
-    )
+    pack(answer, |found| found.unwrap_or(0) as u64)
 }
 
 // The number for what the test for equal bytes returns.

@@ -26,15 +26,29 @@ use Rattle.search.specs.Searched.{found_by, state_of, history_of}
 use Rattle.search.proofs.Found.{holds_of}
 use Rattle.search.proofs.Trails.{history-empty, parent-low, history-short, step-length}
 use Rattle.search.proofs.FirstFound.{first-none, first_some}
-use Rattle.search.proofs.BookSearch.{book-first, book-most, book-few, book-inside, book-once, book-some}
+use Rattle.search.proofs.BookSearch.{book-first, book-few, book-inside, book-once, book-some}
 use Rattle.page.specs.Depths.{depth_of, SearchedPlaces, DepthsNoted, DepthsOf}
 
+-- ---- the state at place k was found from that at an earlier place, p
+module _ {N M : ℕ} (s : Search N M) (k : ℕ) (after_first : 1 ≤ k) (l : k < s.count) (p : ℕ) (ep : p ≡ first_at s.trail k) where
+  falls : EarlierParents (suc k) (first_at s.trail)
+  falls i c = s.earlier i (omega arith)
+
+  pub parent-before : p < k
+  parent-before = parent-low s.trail k falls k p ep after_first (omega arith)
+
+  longer : length (history_of s k) ≡ length (history_of s p) + 1
+  longer = step-length s.trail k falls k after_first (omega arith) ∙ ap (λ (q : ℕ). length (history_of s q) + 1) (sym ep)
+
+  short : length (history_of s k) ≤ k
+  short = history-short s.trail k falls
+
 -- ---- one state more
-module _ {N M : ℕ} (s : Search N M) (depths : List ℕ) (P : SearchedPlaces s (length depths)) where
+module _ {N M : ℕ} {s : Search N M} {room : ℕ} (P : SearchedPlaces s room) (depths : List ℕ) (long : length depths ≡ room) where
   module _ (k x : ℕ) (D : DepthsNoted s k depths) (l : k < s.count) (is : x ≡ suc (length (history_of s k))) where
     noted-found : (j : ℕ) → (j < k) ⊎ (j ≡ k) → byte (set depths (state_of s k) x) (state_of s j) ≡ suc (length (history_of s j))
     noted-found j (inl b) = get_or-set_other depths (state_of s k) (state_of s j) x 0 (P.once j k b l) ∙ D.found j b
-    noted-found j (inr here) = rw here (get_or-set_same depths (state_of s k) x 0 (P.below k l) ∙ is)
+    noted-found j (inr here) = rw here (get_or-set_same depths (state_of s k) x 0 (omega (arith, P.below k l)) ∙ is)
 
     noted_more : DepthsNoted s (suc k) (set depths (state_of s k) x)
     noted_more = record {
@@ -44,45 +58,26 @@ module _ {N M : ℕ} (s : Search N M) (depths : List ℕ) (P : SearchedPlaces s 
     }
 
   -- the first
-  pub noted_first : DepthsNoted s 0 depths → (y : ℕ) → y ≡ state_of s 0 → (y < length depths) × DepthsNoted s 1 (set depths y 1)
+  pub noted_first : DepthsNoted s 0 depths → (y : ℕ) → y ≡ state_of s 0 → DepthsNoted s 1 (set depths y 1)
   noted_first D y e =
       let empty = ap length (history-empty s.trail 0 (λ j b. absurd (omega arith)) 0 refl) in
-      rw e (P.below 0 P.some, noted_more 0 1 D P.some (omega (arith, empty)))
+      rw e (noted_more 0 1 D P.some (omega (arith, empty)))
 
-  -- each other one was found from a state at an earlier place
-  module _ (k : ℕ) (after_first : 1 ≤ k) (l : k < s.count) (D : DepthsNoted s k depths) where
-    falls : (j : ℕ) → j ≤ k → EarlierParents (suc j) (first_at s.trail)
-    falls j b i c = s.earlier i (omega arith)
+  -- each other one, which was found from the state y at an earlier place
+  module _ (k : ℕ) (after_first : 1 ≤ k) (l : k < s.count) (D : DepthsNoted s k depths) (p : ℕ) (ep : p ≡ first_at s.trail k) (y : ℕ) (ey : y ≡ state_of s p) where
+    pub note-reads : y < length depths
+    note-reads = omega (arith, P.below p (omega (arith, parent-before s k after_first l p ep)))
 
-    -- its place
-    module _ (p : ℕ) (ep : p ≡ first_at s.trail k) where
-      pub parent-before : p < k
-      parent-before = parent-low s.trail k (falls k (omega arith)) k p ep after_first (omega arith)
+    depth_is : byte depths y + 1 ≡ suc (length (history_of s k))
+    depth_is =
+        let above : byte depths y ≡ suc (length (history_of s p)) = ap (byte depths) ey ∙ D.found p (parent-before s k after_first l p ep) in
+        omega (arith, above, longer s k after_first l p ep)
 
-      -- that state, y, and its depth
-      module _ (y : ℕ) (ey : y ≡ state_of s p) where
-        pub note-reads : y < length depths
-        note-reads = omega (arith, P.below p (omega (arith, parent-before)))
+    pub note-fits : byte depths y + 1 < 256
+    note-fits = omega (arith, depth_is, short s k after_first l p ep, P.few)
 
-        depth_is : byte depths y + 1 ≡ suc (length (history_of s k))
-        depth_is =
-            let above : byte depths y ≡ suc (length (history_of s p)) = ap (byte depths) ey ∙ D.found p parent-before in
-            let longer : length (history_of s k) ≡ length (history_of s p) + 1 =
-            step-length s.trail k (falls k (omega arith)) k after_first (omega arith) ∙ ap (λ (q : ℕ). length (history_of s q) + 1) (sym ep) in
-            omega (arith, above, longer)
-
-        pub note-fits : byte depths y + 1 < 256
-        note-fits = omega (arith, depth_is, history-short s.trail k (falls k (omega arith)), P.few)
-
-        pub note-state : (z : ℕ) → z ≡ state_of s k → z < length depths
-        note-state z ez = omega (arith, P.below k l)
-
-        pub noted-next : (z : ℕ) → z ≡ state_of s k → DepthsNoted s (k + 1) (set depths z (byte depths y + 1))
-        noted-next z ez = rw (ez, add-one k) (noted_more k (byte depths y + 1) D l depth_is)
-
--- the places do not change with the depths
-pub places_same : {N M : ℕ} {s : Search N M} {r t : ℕ} → r ≡ t → SearchedPlaces s r → SearchedPlaces s t
-places_same e P = rw (← e) P
+    pub noted-next : (z : ℕ) → z ≡ state_of s k → DepthsNoted s (k + 1) (set depths z (byte depths y + 1))
+    noted-next z ez = rw (ez, add-one k) (noted_more k (byte depths y + 1) D l depth_is)
 
 -- ---- what a search of a book leaves, where no depth is noted yet
 module _ (b : List ℕ) {N M : ℕ} (s : Search N M) (e : found_by s ≡ book_states b) (ok : BookPassed b) (depths : List ℕ) (zeros : depths ≡ replicate 128 0) where

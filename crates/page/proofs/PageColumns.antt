@@ -1,67 +1,29 @@
 -- The columns of a line, put one after another.
 use mathlib.Core.Path.{◌≡◌, refl, sym, ap, ◌∙◌}
 use mathlib.Core.List.{List, [], ◌∷◌, ◌++◌, append_assoc, append-nil}
-use Prim.Native.Nat.{ℕ, zero, suc, ◌+◌, ◌-◌, ◌*◌, ◌/◌, ◌≤◌, ◌<◌}
-use native.Mathlib.Nat.{add-zero, add-suc, add_assoc}
+use Prim.Native.Nat.{ℕ, zero, suc, ◌+◌, ◌-◌, ◌*◌, ◌≤◌, ◌<◌}
+use native.Mathlib.Nat.{add-zero, add-suc}
 use native.Mathlib.Numerals.{add-one}
 use native.Mathlib.Omega.{arith}
-use lib.ListN.{length, get_or, take, drop, set, replicate, length-append, length-drop, length-replicate, replicate-append-replicate}
+use lib.ListN.{length, take, drop, set, replicate, length-append, length-drop, length-replicate, replicate-append-replicate}
 use Rattle.std.proofs.lemmas.List.{length-take, get_or-take}
 use borrow.Rule.Slice.PartMut.{put_mid}
 use lib.Seq.{sets, get_or-drop, drop_at, set_comm, set-set}
 use borrow.Author.Tests.{lt-ltb, le-ltb}
 use Rattle.automaton.specs.Below.{list_below}
 use Rattle.automaton.specs.Machine.{step}
-use Rattle.automaton.proofs.Machine.{is_state_law}
 use Rattle.automaton.proofs.Congruence.{list-below-same}
 use Rattle.definitions.specs.Bytes.{byte}
 use Rattle.definitions.specs.Codes.{accept_code, reject_code}
 use Rattle.definitions.specs.Book.{events, requests, width, entry, book_machine}
 use Rattle.definitions.proofs.BookSteps.{step-is-entry}
-use Rattle.definitions.specs.Decimal.{digit, decimal}
 use Rattle.definitions.specs.Characters.{blank, newline}
-use Rattle.definitions.specs.Page.{three_columns, dashes, request_column}
+use Rattle.definitions.specs.Page.{three_columns, request_column}
 use Rattle.definitions.specs.Telling.{telling}
 use Rattle.book.specs.Rows.{row_of}
 use Rattle.text.specs.Put.{Put}
 use Rattle.text.proofs.Puts.{then, byte_put, copied}
-use Rattle.page.specs.LineColumns.{depth_columns, letter_by, letter_in, line_of}
-
--- ---- a number after as many blanks as it leaves
-module _ {before middle after : List ℕ} {at next end : ℕ} (n : ℕ) where
-  pub columns_of_one : n < 10 → Put before at (blank ∷ blank ∷ []) middle next → Put middle next (digit n ∷ []) after end → Put before at (three_columns n) after end
-  columns_of_one l p q = rw (lt-ltb n 10 l) (then p q)
-
-  pub columns_of_two : 10 ≤ n → n < 100 → Put before at (blank ∷ []) middle next → Put middle next (digit (n / 10) ∷ digit n ∷ []) after end
-      → Put before at (three_columns n) after end
-  columns_of_two l m p q = rw (le-ltb n 10 l, lt-ltb n 100 m) (then p q)
-
-pub columns_of_three : {before after : List ℕ} {at end : ℕ} (n : ℕ) → 100 ≤ n → Put before at (decimal n) after end → Put before at (three_columns n) after end
-columns_of_three n l q =
-    let m : 10 ≤ n = omega arith in
-    rw (le-ltb n 10 m, le-ltb n 100 l) (rw (le-ltb n 10 m, le-ltb n 100 l) at q)
-
--- ---- a length by its depth
-pub depth_none : (depth : ℕ) → depth ≡ 0 → depth_columns depth ≡ dashes
-depth_none depth e = rw e
-
-pub depth_some : (depth : ℕ) → (depth ≡ 0 → ⊥) → depth_columns depth ≡ three_columns (depth - 1)
-depth_some zero n = absurd (n refl)
-depth_some (suc k) n = let e : suc k - 1 ≡ k = omega arith in rw e
-
--- ---- a letter by its two entries
-module _ (accept reject : ℕ) where
-  pub letter-none : accept ≡ 0 → reject ≡ 0 → letter_by accept reject ≡ 46
-  letter-none a r = rw (a, r)
-
-  pub letter_reject : accept ≡ 0 → (reject ≡ 0 → ⊥) → letter_by accept reject ≡ 82
-  letter_reject a r = rw (a, is_state_law reject (omega arith))
-
-  pub letter_accept : (accept ≡ 0 → ⊥) → reject ≡ 0 → letter_by accept reject ≡ 65
-  letter_accept a r = rw (is_state_law accept (omega arith), r)
-
-  pub letter-both : (accept ≡ 0 → ⊥) → (reject ≡ 0 → ⊥) → letter_by accept reject ≡ 66
-  letter-both a r = rw (is_state_law accept (omega arith), is_state_law reject (omega arith))
+use Rattle.page.specs.LineColumns.{depth_columns, letter_in, line_of}
 
 -- ---- one column more
 module _ (f : ℕ → ℕ) where
@@ -124,17 +86,26 @@ module _ (b : List ℕ) (s : ℕ) where
   request-entry : (k : ℕ) → events b + k < width b → byte (drop (events b) (row_of b s)) k ≡ entry b s (events b + k)
   request-entry k l = get_or-drop (events b) (row_of b s) k 0 ∙ rw get_or-take
 
-  -- the letters of a row are those of its state
-  pub letter-column : 1 ≤ s → (r : ℕ) → r < requests b → letter_in (drop (events b) (row_of b s)) r ≡ request_column b s r
+  -- the letters of entries that are the requests' are those of the state
+  letters-are : (row : List ℕ) → ((k : ℕ) → events b + k < width b → byte row k ≡ entry b s (events b + k)) → 1 ≤ s
+      → (r : ℕ) → r < requests b → letter_in row r ≡ request_column b s r
   unfolding telling
-  letter-column some-state r l =
-      let row = drop (events b) (row_of b s) in
+  letters-are row entries some-state r l =
       let next : events b + (2 * r + 1) ≡ reject_code (events b) r = omega arith in
       let accept : byte row (2 * r) ≡ step (book_machine b) s (accept_code (events b) r) =
-      request-entry (2 * r) (omega arith) ∙ sym (step-is-entry b s (accept_code (events b) r) some-state (omega arith)) in
+      entries (2 * r) (omega arith) ∙ sym (step-is-entry b s (accept_code (events b) r) some-state (omega arith)) in
       let reject : byte row (2 * r + 1) ≡ step (book_machine b) s (reject_code (events b) r) =
-      request-entry (2 * r + 1) (omega arith) ∙ ap (entry b s) next ∙ sym (step-is-entry b s (reject_code (events b) r) some-state (omega arith)) in
+      entries (2 * r + 1) (omega arith) ∙ ap (entry b s) next ∙ sym (step-is-entry b s (reject_code (events b) r) some-state (omega arith)) in
       rw (lt-ltb r (requests b) l, accept, reject)
+
+  -- so are those of the book from the requests of a row on
+  pub letter-column : (row : List ℕ) → row ≡ drop (12 + (s - 1) * width b + events b) b → 1 ≤ s → (r : ℕ) → r < requests b → letter_in row r ≡ request_column b s r
+  letter-column row e = letters-are row entries
+    where
+      entries : (k : ℕ) → events b + k < width b → byte row k ≡ entry b s (events b + k)
+      entries k l =
+          let same : 12 + (s - 1) * width b + events b + k ≡ 12 + (s - 1) * width b + (events b + k) = omega arith in
+          rw e (get_or-drop (12 + (s - 1) * width b + events b) b k 0) ∙ ap (byte b) same ∙ sym (get_or-drop (12 + (s - 1) * width b) b (events b + k) 0)
 
   -- letters, and blanks beyond Q
   pub columns_all : (row : List ℕ) → row ≡ drop (events b) (row_of b s) → 1 ≤ s → (q : ℕ) → q ≡ requests b → q ≤ 64
@@ -142,7 +113,7 @@ module _ (b : List ℕ) (s : ℕ) where
   columns_all row e some-state q count l =
       let whole : q + (64 - q) ≡ 64 = omega arith in
       ap (λ (x : List ℕ). x ++ replicate (64 - q) blank)
-      (list-below-same (letter_in row) (request_column b s) q (λ r m. ap (λ (x : List ℕ). letter_in x r) e ∙ letter-column some-state r (omega arith)))
+      (list-below-same (letter_in row) (request_column b s) q (λ r m. ap (λ (x : List ℕ). letter_in x r) e ∙ letters-are (drop (events b) (row_of b s)) request-entry some-state r (omega arith)))
       ∙ columns_blank (request_column b s) q (64 - q) (λ r m. rw (le-ltb r (requests b) (omega arith))) ∙ ap (λ (n : ℕ). list_below n (request_column b s)) whole
 
 -- the parts of a line, put one after another

@@ -10,7 +10,7 @@ ghost use Rattle.definitions.specs.Way.{way_answer, way_buffer};
 ghost use Rattle.verdict.specs.VerdictAnswer.{buffers_after};
 ghost use Rattle.packing.specs.Packing.{packed, equal_or_not, book_length, findings_value, history_length, page_length, length_or_none};
 
-use packing::{pack_build, pack_compare, pack_page, pack_same_bytes, pack_verdict, pack_way};
+use packing::{pack_compare, pack_length, pack_same_bytes, pack_verdict, pack_way};
 
 // Builds the book of a policy. The value is the book's length. The book goes to the front of the buffer; the bytes after it are unchanged, and on a refusal all of them.
 #[unsafe(no_mangle)]
@@ -18,7 +18,7 @@ pub extern "C" fn policybook_build(policy: &[u8], book: &mut [u8]) -> u64
     ensures value { result ≡ packed book_length (build_answer policy.now book.old) }
     ensures book_after { book.new ≡ build_buffer policy.now book.old }
 {
-    pack_build(build::build(policy, book))
+    pack_length(build::build(policy, book))
 }
 
 // The findings on a book. The value tells conflict, missing and blocked, from bits 0, 16 and 32 on. The history of each that is found goes to the front of its
@@ -54,7 +54,7 @@ pub extern "C" fn policybook_page(book: &[u8], page: &mut [u8]) -> u64
     ensures value { result ≡ packed page_length (page_answer book.now page.old) }
     ensures page_after { page.new ≡ page_buffer book.now page.old }
 {
-    pack_page(page::page(book, page))
+    pack_length(page::page(book, page))
 }
 
 // Finds the earliest possible history after which a request has an outcome: 0 none, 1 accept, 2 reject, 3 both. The value is one more than the history's length, and 0

@@ -91,8 +91,8 @@ impl<const N: usize, const M: usize> Search<N, M> {
         let n = self.count;
         self.order[n] = state as u8;
         trail::put(&mut self.trail, n, from as u8, code as u8);
+        self.numbers[state] = (n + 1) as u8;
         self.count = n + 1;
-        self.numbers[state] = self.count as u8;
     }
 
     // The codes are tried, in order, from the state at a place.

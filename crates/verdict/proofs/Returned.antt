@@ -1,50 +1,23 @@
 -- The contract of `verdict` leaves nothing free: what is returned is told by document 01's answer, and the numbers of codes are the lengths of its histories.
 use mathlib.Core.Path.{◌≡◌, refl, ap, sym, ◌∙◌}
-use mathlib.Core.List.{List, [], ◌∷◌}
+use mathlib.Core.List.{List}
 use mathlib.Core.Option as Maybe
-use Prim.Native.Nat.{ℕ, ◌-◌, ◌≤◌, ◌<◌}
+use Prim.Native.Nat.{ℕ, ◌≤◌, ◌<◌}
 use native.Mathlib.Omega.{arith}
-use lib.ListN.{length, get_or}
+use lib.ListN.{length}
 use Rattle.std.specs.Prelude.{Option, None, Some, Result, Ok, Err}
 use Rattle.automaton.specs.History.{History}
 use Rattle.definitions.specs.Answer.{Answer, refused, given, history_bytes}
 use Rattle.definitions.specs.Verdict as Verdict
 use Rattle.definitions.proofs.Answers.{no_shorter}
 use Rattle.definitions.proofs.Written.{length_taken}
-use Rattle.refusal.specs.Refused.{number_of}
+use Rattle.refusal.proofs.Refused.{refusal_of, refusal-is}
 use Rattle.refusal.specs.declared.Refusal.{Refusal}
-use Rattle.refusal.specs.declared.Refusal.TheVariants.{ShortBuffer, ShortPolicy, PolicyMark, PolicyVersion, PolicyRange, PolicyLength, ValueCount, Mask, RuleValue, Valuations, Situations, BookHeader, BookLayout, BookEntry, Frames, NotInBook, Start, UnknownOutcome}
 use Rattle.findings.specs.FindingsOf.{found_of, blocked_of}
 use Rattle.findings.specs.declared.finding.Found.{Found}
 use Rattle.findings.specs.declared.Findings.{Findings}
 use Rattle.verdict.specs.VerdictAnswer.{judged_answer, buffers_after}
 use Rattle.verdict.proofs.SmallFindings.{SmallFound, given_small}
-
--- ---- the refusal with a number
-abbrev pub refusal_of : ℕ → Refusal
-refusal_of number =
-    get_or (ShortBuffer ∷ ShortPolicy ∷ PolicyMark ∷ PolicyVersion ∷ PolicyRange ∷ PolicyLength ∷ ValueCount ∷ Mask ∷ RuleValue ∷ Valuations ∷ Situations
-    ∷ BookHeader ∷ BookLayout ∷ BookEntry ∷ Frames ∷ NotInBook ∷ Start ∷ []) (number - 1) UnknownOutcome
-
-refusal-is : (r : Refusal) → r ≡ refusal_of (number_of r)
-refusal-is ShortBuffer = refl
-refusal-is ShortPolicy = refl
-refusal-is PolicyMark = refl
-refusal-is PolicyVersion = refl
-refusal-is PolicyRange = refl
-refusal-is PolicyLength = refl
-refusal-is ValueCount = refl
-refusal-is Mask = refl
-refusal-is RuleValue = refl
-refusal-is Valuations = refl
-refusal-is Situations = refl
-refusal-is BookHeader = refl
-refusal-is BookLayout = refl
-refusal-is BookEntry = refl
-refusal-is Frames = refl
-refusal-is NotInBook = refl
-refusal-is Start = refl
-refusal-is UnknownOutcome = refl
 
 -- ---- what is returned for an answer
 abbrev found_with : ℕ → ℕ → Found

@@ -23,8 +23,8 @@ use Rattle.definitions.proofs.Answers.{refused_buffer, given-answer, answer-give
 use Rattle.definitions.proofs.Written.{length_taken}
 use Rattle.definitions.proofs.Demands.{ways-right}
 use Rattle.refusal.specs.declared.Refusal.{Refusal}
-use Rattle.refusal.specs.Refused.{number_of, answer_in}
-use Rattle.refusal.proofs.Refused.{some_number, answer-err}
+use Rattle.refusal.specs.Refused.{number_of}
+use Rattle.refusal.proofs.Refused.{some_number, answer-err, refusal_of, refusal-is}
 use Rattle.way.specs.ShownAnswer.{shown_answer}
 
 outcome_most : (told : Telling) → outcome_of told ≤ 3
@@ -100,18 +100,18 @@ length_of Math.none = Rust.None
 length_of (Math.some h) = Rust.Some (length h)
 
 -- the number of a refusal, or the length of the history
-abbrev pub shown_of : Answer (Math.Option History) → Answer (Rust.Option ℕ)
-shown_of (refused number) = refused number
-shown_of (given h) = given (length_of h)
+abbrev pub shown_of : Answer (Math.Option History) → Result (Rust.Option ℕ) Refusal
+shown_of (refused number) = Err (refusal_of number)
+shown_of (given h) = Ok (length_of h)
 
 buffer_no_shorter : (b : List ℕ) (r outcome : ℕ) (buffer : List ℕ) → length buffer ≤ length (way_buffer b r outcome buffer)
 unfolding way_buffer
 buffer_no_shorter b r outcome buffer = no_shorter (way_refusal b r outcome buffer) (history_bytes (way b r outcome)) buffer
 
 pub shown-is : (b : List ℕ) (r outcome : ℕ) (buffer after : List ℕ) (shown : Result (Rust.Option ℕ) Refusal) → shown_answer shown after ≡ way_answer b r outcome buffer
-    → after ≡ way_buffer b r outcome buffer → answer_in (λ n. n) shown ≡ shown_of (way_answer b r outcome buffer)
-shown-is b r outcome buffer after (Err refusal) e ea = ap shown_of e
+    → after ≡ way_buffer b r outcome buffer → shown ≡ shown_of (way_answer b r outcome buffer)
+shown-is b r outcome buffer after (Err refusal) e ea = ap Err (refusal-is refusal) ∙ ap shown_of e
 shown-is b r outcome buffer after (Ok Rust.None) e ea = ap shown_of e
 shown-is b r outcome buffer after (Ok (Rust.Some n)) e ea =
     let small = way_small b r outcome buffer (take n after) e in
-    ap (λ (k : ℕ). given (Rust.Some k)) (sym (length_taken n after (omega (arith, buffer_no_shorter b r outcome buffer, ap length ea)))) ∙ ap shown_of e
+    ap (λ (k : ℕ). Ok (Rust.Some k)) (sym (length_taken n after (omega (arith, buffer_no_shorter b r outcome buffer, ap length ea)))) ∙ ap shown_of e

@@ -1,5 +1,5 @@
 -- `page` meets its contract: each refusal is that of the lowest row that fits.
-use mathlib.Core.Path.{ap, ◌∙◌}
+use mathlib.Core.Path.{◌∙◌}
 use Rattle.std.proofs.lemmas.Result.{err_from_is_err_and}
 use Rattle.refusal.specs.declared.Refusal.TheVariants.{ShortBuffer}
 use Rattle.page.proofs.PageAnswers.{refused_by_1, refused_by-book, page-refused, page-given}

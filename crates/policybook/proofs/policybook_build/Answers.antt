@@ -2,5 +2,5 @@
 use Rattle.packing.proofs.PackedBounds.{built_within}
 use Rattle.policybook.proofs.policybook_build.Goals as goal
 
-pub pack_build-requires : goal.pack_build-requires
-pack_build-requires c = built_within _ _ c.build.result c.build.ensures.answer
+pub pack_length-requires : goal.pack_length-requires
+pack_length-requires c = built_within _ _ c.build.result c.build.ensures.answer

@@ -1,11 +1,11 @@
 -- `policybook_compare` meets its contract: what compare answers is small enough to be packed.
 use lib.ListN.{length}
-use Rattle.packing.specs.PackedBounds.{ComparedWithin}
+use Rattle.packing.specs.PackedBounds.{HistoryWithin}
 use Rattle.packing.proofs.PackedBounds.{compared-within}
 use Rattle.policybook.proofs.policybook_compare.Goals.{After-compare}
 use Rattle.policybook.proofs.policybook_compare.Goals as goal
 
-within : (c : After-compare) → ComparedWithin 256 c.compare.result × ComparedWithin (length c.compare.new.history) c.compare.result
+within : (c : After-compare) → HistoryWithin 256 c.compare.result × HistoryWithin (length c.compare.new.history) c.compare.result
 within c = compared-within _ _ _ c.compare.result c.compare.new.history c.compare.auto.history c.compare.ensures.answer
 
 pub pack_compare-requires : goal.pack_compare-requires

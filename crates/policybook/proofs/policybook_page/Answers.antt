@@ -2,5 +2,5 @@
 use Rattle.packing.proofs.PackedBounds.{paged_within}
 use Rattle.policybook.proofs.policybook_page.Goals as goal
 
-pub pack_page-requires : goal.pack_page-requires
-pack_page-requires c = paged_within _ _ c.page.result c.page.ensures.answer
+pub pack_length-requires : goal.pack_length-requires
+pack_length-requires c = paged_within _ _ c.page.result c.page.ensures.answer

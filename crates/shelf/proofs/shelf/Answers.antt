@@ -11,9 +11,8 @@ shelf-is : (input : List ℕ) → refusal_or book_text (take 1024 input) ≡ she
 unfolding refusal_or policy_text shelf_text
 shelf-is input = refl
 
-pub returns : goal.returns
-returns c =
-    let input = c.args.input.now in
-    let is : refusal_or book_text c.first.result.now ≡ shelf_text input = rw c.first.ensures.result_value (shelf-is input) in
-    let p = c.policy_text.ensures in
-    record { value = rw (← is) p.value; out_after = rw (← is) p.out_after; upper_bound = p.upper_bound }
+pub returns-clause-value : goal.returns-clause-value
+returns-clause-value c = rw (← shelf-is c.args.input.now) (rw c.first.ensures.result_value at c.policy_text.ensures.value)
+
+pub returns-clause-out_after : goal.returns-clause-out_after
+returns-clause-out_after c = rw (← shelf-is c.args.input.now) (rw c.first.ensures.result_value at c.policy_text.ensures.out_after)

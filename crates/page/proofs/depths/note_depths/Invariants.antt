@@ -1,7 +1,5 @@
-use mathlib.Core.Path.{◌≡◌}
-use lib.ListN.{length}
 use Rattle.page.specs.Depths.{DepthsNoted}
 use Rattle.page.proofs.depths.note_depths.Given as goal
 
 abbrev pub invariant-loop-k : goal.invariant-loop-k
-invariant-loop-k g l = (length l.depths ≡ length l.initial.depths) × DepthsNoted l.search l.k l.depths
+invariant-loop-k g l = DepthsNoted l.search l.k l.depths
