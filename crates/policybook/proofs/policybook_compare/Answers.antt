@@ -2,7 +2,6 @@
 use lib.ListN.{length}
 use Rattle.packing.specs.PackedBounds.{HistoryWithin}
 use Rattle.packing.proofs.PackedBounds.{compared-within}
-use borrow.Author.Rules.{rules}
 use Rattle.policybook.proofs.policybook_compare.Goals.{After-compare}
 use Rattle.policybook.proofs.policybook_compare.Goals as goal
 
@@ -12,6 +11,6 @@ within c = compared-within _ _ _ c.compare.result c.compare.new.history c.compar
 pub pack_compare-requires : goal.pack_compare-requires
 pack_compare-requires c = (within (goal.at.pack_compare-requires c).After-compare).0
 
-pub returns : goal.returns
-returns c =
-    let called = c.compare in record { value = rw (← called.ensures.answer) (c.pack_compare.ensures called.new.history (within (goal.at.returns c).After-compare).1); history_after = called.ensures.history }
+pub returns-clause-value : goal.returns-clause-value
+returns-clause-value c =
+    let called = c.compare in rw (← called.ensures.answer) (c.pack_compare.ensures called.new.history (within (goal.at.returns-clause-value c).After-compare).1)

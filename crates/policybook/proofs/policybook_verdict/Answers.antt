@@ -2,7 +2,6 @@
 use lib.ListN.{length}
 use Rattle.verdict.specs.AnswerBounds.{JudgedWithin}
 use Rattle.verdict.proofs.AnswerBounds.{judged-within}
-use borrow.Author.Rules.{rules}
 use Rattle.policybook.proofs.policybook_verdict.Goals.{After-verdict}
 use Rattle.policybook.proofs.policybook_verdict.Goals as goal
 
@@ -16,10 +15,8 @@ within c =
 pub pack_verdict-requires : goal.pack_verdict-requires
 pack_verdict-requires c = (within (goal.at.pack_verdict-requires c).After-verdict).0
 
-pub returns : goal.returns
-returns c =
+pub returns-clause-value : goal.returns-clause-value
+returns-clause-value c =
     let called = c.verdict in
-    let new = called.new in record {
-      value = rw (← called.ensures.answer) (c.pack_verdict.ensures new.conflict new.missing new.blocked (within (goal.at.returns c).After-verdict).1);
-      blocked_after = called.ensures.buffers;
-    }
+    let new = called.new in
+    rw (← called.ensures.answer) (c.pack_verdict.ensures new.conflict new.missing new.blocked (within (goal.at.returns-clause-value c).After-verdict).1)

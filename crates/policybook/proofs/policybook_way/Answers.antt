@@ -2,7 +2,6 @@
 use lib.ListN.{length}
 use Rattle.packing.specs.PackedBounds.{HistoryWithin}
 use Rattle.packing.proofs.PackedBounds.{shown-within}
-use borrow.Author.Rules.{rules}
 use Rattle.policybook.proofs.policybook_way.Goals.{After-way}
 use Rattle.policybook.proofs.policybook_way.Goals as goal
 
@@ -12,6 +11,6 @@ within c = shown-within _ _ _ _ c.way.result c.way.new.history c.way.auto.histor
 pub pack_way-requires : goal.pack_way-requires
 pack_way-requires c = (within (goal.at.pack_way-requires c).After-way).0
 
-pub returns : goal.returns
-returns c =
-    let called = c.way in record { value = rw (← called.ensures.answer) (c.pack_way.ensures called.new.history (within (goal.at.returns c).After-way).1); history_after = called.ensures.history }
+pub returns-clause-value : goal.returns-clause-value
+returns-clause-value c =
+    let called = c.way in rw (← called.ensures.answer) (c.pack_way.ensures called.new.history (within (goal.at.returns-clause-value c).After-way).1)
