@@ -3,7 +3,7 @@ use mathlib.Core.Path.{◌≡◌, refl, ap, sym, ◌∙◌}
 use mathlib.Core.Logic.{◌⊎◌, inl, inr}
 use mathlib.Core.List.{List, [], ◌∷◌, ◌++◌}
 use mathlib.Core.Option.{Option as Maybe, none, some}
-use Prim.Native.Nat.{ℕ, suc, ◌+◌, ◌*◌, ◌≤◌, ◌<◌}
+use Prim.Native.Nat.{ℕ, suc, ◌+◌, ◌≤◌, ◌<◌}
 use native.Mathlib.Numerals.{add-one}
 use native.Mathlib.Omega.{arith}
 use native.Mathlib.Decide.{dec_lt}
@@ -34,7 +34,7 @@ use Rattle.comparelabels.proofs.FirstFailing.{induction}
 use Rattle.comparelabels.proofs.LabelBytes.{labels-merged, low_label, not_none, merged-own, begun_own, begun_merged}
 use Rattle.comparepairs.specs.PairSearch.{BooksReady, PairSearch, left_at, right_at, queue_of, Both, Spotted}
 use Rattle.comparepairs.proofs.RowSteps.{row-length, row_step}
-use Rattle.comparepairs.proofs.QueueBytes.{left-put, right-put, pair_added}
+use Rattle.comparepairs.proofs.QueueBytes.{pair_added}
 
 -- ---- two books that pass the checks, of one width
 pub record Books (b d : List ℕ) : Type 0 where
