@@ -290,7 +290,7 @@ module _ (b d : List ℕ) (m i c : ℕ) (one other queue label : List ℕ) (T : 
           within = omega (arith, low-right c code, S.ready.room_label)
 
           queued : Added m i c (x c) (y c) q (queue_of (length label) (placed (placed queue m i c) (length label + m) (x c) (y c)))
-          queued = pair_added (length label) queue S.ready.room_queue (omega (arith, within)) m i c (x c) (y c) (omega (arith, few, S.ready.room_label))
+          queued = pair_added (length label) queue S.ready.room_queue m i c (x c) (y c) (omega (arith, few, S.ready.room_label))
 
 -- codes that lead to one label are passed over
 pub passed_over : (b d : List ℕ) (m i c r : ℕ) (one other queue label : List ℕ) → Trying b d m i c one other queue label
