@@ -11,7 +11,7 @@ ghost use Rattle.comparepairs.specs.PairSearch.{Traced, difference_at};
 
 use book::Book;
 use bookcheck::check;
-use comparepairs::{Difference, first_difference};
+use comparepairs::{Difference, PairQueue};
 use refusal::Refusal;
 use samebytes::same_frame;
 use search::write_history;
@@ -41,29 +41,27 @@ fn compare_passed(first: Book, second: Book, history: &mut [u8]) -> Option<usize
 {
     let numbers = first.states() + second.states() + 2;
     if numbers <= 32 {
-        compare_in::<128, 32>(first, second, numbers, history)
+        compare_in::<128, 32>(first, second, history)
     } else {
-        compare_in::<1024, 256>(first, second, numbers, history)
+        compare_in::<1024, 256>(first, second, history)
     }
 }
 
-// The same with arrays that have room for a search over so many numbers. QUEUE is a parameter of its own, since an array's length is no product of parameters.
+// The same with arrays that have room for a search over so many numbers.
 fn compare_in<const QUEUE: usize, const LABELS: usize>(
     first: Book,
     second: Book,
-    numbers: usize,
     history: &mut [u8],
 ) -> Option<usize>
-    requires numbers_are { numbers ≡ B.states first.bytes.now + B.states second.bytes.now + 2 }
-    requires room { (numbers ≤ LABELS) × (LABELS ≤ 256) × (QUEUE ≡ 4 * LABELS) }
+    requires room { B.states first.bytes.now + B.states second.bytes.now + 2 ≤ LABELS }
+    requires sizes { (LABELS ≤ 256) × (QUEUE ≡ 4 * LABELS) }
     requires one_frame { (B.frame first.bytes.now ≡ B.frame second.bytes.now) × (256 ≤ length history.old) }
     ensures answer { difference_in history.new result ≡ comparison first.entry.bytes.now second.entry.bytes.now }
     ensures history { history.new ≡ written (history_bytes (comparison first.entry.bytes.now second.entry.bytes.now)) history.old }
 {
-    let mut queue = [0; QUEUE];
-    let mut label = [0; LABELS];
-    let difference = first_difference(first, second, &mut queue, &mut label[..numbers])?;
-    Some(write_difference(&queue, difference, history))
+    let mut pairs = PairQueue::<QUEUE, LABELS>::new(first);
+    let difference = pairs.first_difference(first, second)?;
+    Some(write_difference(pairs.trail(), difference, history))
 }
 
 // Writes the history of the place, and then the code, to the front of the buffer, and returns their number. Bytes after them are unchanged.

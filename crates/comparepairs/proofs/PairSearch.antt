@@ -3,13 +3,13 @@ use mathlib.Core.Path.{◌≡◌, refl, ap, sym, ◌∙◌}
 use mathlib.Core.Logic.{◌⊎◌, inl, inr}
 use mathlib.Core.List.{List, [], ◌∷◌, ◌++◌}
 use mathlib.Core.Option.{Option as Maybe, none, some}
-use Prim.Native.Nat.{ℕ, suc, ◌+◌, ◌*◌, ◌≤◌, ◌<◌}
+use Prim.Native.Nat.{ℕ, suc, ◌+◌, ◌≤◌, ◌<◌}
 use native.Mathlib.Numerals.{add-one}
 use native.Mathlib.Omega.{arith}
 use native.Mathlib.Decide.{dec_lt}
 use borrow.Author.Tests.{lt-ltb, le-ltb}
 use lib.Dec.{ltb}
-use Rattle.std.specs.Prelude.{Some, None, MatchOption}
+use Rattle.std.specs.Prelude.{Option, Some, None, MatchOption}
 use Rattle.std.specs.Bool.{then_some}
 use lib.ListN.{length, get_or, length-map}
 use Rattle.automaton.specs.History.{History}
@@ -31,11 +31,10 @@ use Rattle.comparelabels.specs.LabelBytes.{label_at, itself, begun_labels, merge
 use Rattle.comparelabels.specs.RowLabels.{RowPair, SameLabel}
 use Rattle.comparelabels.specs.FirstFailing.{FirstFailing}
 use Rattle.comparelabels.proofs.FirstFailing.{induction}
-use Rattle.comparelabels.proofs.LabelBytes.{labels-merged, low_label, not_none, merged-own, begun_length, begun_own, begun_merged}
-use Rattle.comparepairs.specs.PairSearch.{BooksReady, PairSearch, left_at, right_at, queue_of, Both, Spotted, Outcome}
-use Rattle.comparepairs.specs.declared.Tried.{Tried}
+use Rattle.comparelabels.proofs.LabelBytes.{labels-merged, low_label, not_none, merged-own, begun_own, begun_merged}
+use Rattle.comparepairs.specs.PairSearch.{BooksReady, PairSearch, left_at, right_at, queue_of, Both, Spotted}
 use Rattle.comparepairs.proofs.RowSteps.{row-length, row_step}
-use Rattle.comparepairs.proofs.QueueBytes.{left-put, right-put, pair_added}
+use Rattle.comparepairs.proofs.QueueBytes.{pair_added}
 
 -- ---- two books that pass the checks, of one width
 pub record Books (b d : List ℕ) : Type 0 where
@@ -69,30 +68,21 @@ module _ (b d queue label : List ℕ) (books : Books b d) (R : BooksReady b d qu
   pub room_begun : states b + 2 < length label
   room_begun = omega (arith, R.room_label, books.second.layout.header.states_some)
 
-  pub begun : (queue' label' : List ℕ) → queue' ≡ placed queue (length label) 1 1 → label' ≡ begun_labels (states b + 1) (length label)
-      → PairSearch b d 1 0 0 queue' label'
-  begun queue' label' eq el = rw (eq, el) (record {
-    ready = record {
-      same_width = R.same_width;
-      room_queue = rw (placed-length, long) R.room_queue;
-      room_label = rw long R.room_label;
-      bytes = rw long R.bytes;
-    };
-    labels = begun_own (states b + 1) (length label) least room;
-    search = rw long (search_begun (book_machine b) (book_machine d) (states b + 1) (states d) (of_first_law b d books) (of_second_law b d books)
-        (queue_of (length label) (placed queue (length label) 1 1)) itself (label_at (begun_labels (states b + 1) (length label)))
-        (left-put (length label) queue R.room_queue (omega arith) 1 1) (right-put (length label) queue R.room_queue (omega arith) 1 1)
-        (λ u a. refl) (begun_merged (states b + 1) (length label) least room (states b + 1 + states d) R.room_label));
-  })
+  pub begun : (size : ℕ) → length label ≡ size → left_at size queue 0 ≡ 1 → right_at size queue 0 ≡ 1 → label ≡ begun_labels (states b + 1) size
+      → PairSearch b d 1 0 0 queue label
+  begun size long left right begun_label = record {
+    ready = R;
+    labels = rw begun_label (begun_own (states b + 1) size least room);
+    search = rw (long, begun_label) (search_begun (book_machine b) (book_machine d) (states b + 1) (states d) (of_first_law b d books) (of_second_law b d books)
+        (queue_of size queue) itself (label_at (begun_labels (states b + 1) size)) left right (λ u a. refl)
+        (begun_merged (states b + 1) size least room (states b + 1 + states d) (omega (arith, R.room_label))));
+  }
     where
       least : 1 < states b + 1
       least = omega (arith, books.first.layout.header.states_some)
 
-      room : states b + 1 + 1 < length label
+      room : states b + 1 + 1 < size
       room = omega (arith, room_begun)
-
-      long : length (begun_labels (states b + 1) (length label)) ≡ length label
-      long = begun_length (states b + 1) (length label) least room
 
 -- ---- the search has come to code c of pair i
 module _ (b d : List ℕ) (m i c : ℕ) (queue label : List ℕ) (books : Books b d) (S : PairSearch b d m i c queue label) where
@@ -197,7 +187,7 @@ module _ (b d : List ℕ) (m i c : ℕ) (one other queue label : List ℕ) (T : 
 
   -- the next pair has room
   pub addable : Both one other c → (RowPair one other (label_at label 0) label × OwnFrom (label_at label 0) label)
-      × (Both one other c × (c < 256) × (i < 256) × (m < length label) × (4 * length label ≤ length queue))
+      × (Both one other c × (c < 256) × (i < 256) × (m < length label))
   addable B = (
     (rows_read, rw S.labels.zero S.labels),
     (
@@ -205,7 +195,6 @@ module _ (b d : List ℕ) (m i c : ℕ) (one other queue label : List ℕ) (T : 
       omega (arith, B.code, width_one, T.books.first.layout.header.width_most),
       omega (arith, T.pair, few, S.ready),
       omega (arith, few, S.ready),
-      S.ready.room_queue,
     ),
   )
 
@@ -250,8 +239,9 @@ module _ (b d : List ℕ) (m i c : ℕ) (one other queue label : List ℕ) (T : 
             absurd (two code (rw (left, right) rows_read.none))
 
     -- the codes are tried
-    pub tried : (t : Tried) → t.pairs ≡ m → t.code ≡ then_some (ltb c (length one)) c → c ≤ length one → (Both one other c → ⊥) → Outcome b d i t queue label
-    tried t em ec most n = rw (em, ec) (record { pair = T.pair; shows = go (dec_lt c (length one)) })
+    pub tried : (r : Option ℕ) → r ≡ then_some (ltb c (length one)) c → c ≤ length one → (Both one other c → ⊥)
+        → MatchOption r (PairSearch b d m (i + 1) 0 queue label) (λ code. Spotted b d queue (Some (record { place = i; code = code })))
+    tried r er most n = rw er (go (dec_lt c (length one)))
       where
         go : Dec (c < length one) → MatchOption (then_some (ltb c (length one)) c) (PairSearch b d m (i + 1) 0 queue label)
             (λ code. Spotted b d queue (Some (record { place = i; code = code })))
@@ -269,9 +259,10 @@ module _ (b d : List ℕ) (m i c : ℕ) (one other queue label : List ℕ) (T : 
 
     -- it leads to two states: their labels are merged, and the pair is queued
     module _ (B : Both one other c) where
-      pub added : (queue' label' : List ℕ) → queue' ≡ placed (placed queue m i c) (length label + m) (x c) (y c) → label' ≡ merged label (x c) (label_at label 0 + y c)
+      pub added : (size : ℕ) → length label ≡ size → (queue' label' : List ℕ) → queue' ≡ placed (placed queue m i c) (size + m) (x c) (y c)
+          → label' ≡ merged label (x c) (label_at label 0 + y c)
           → Trying b d (m + 1) i (c + 1) one other queue' label'
-      added queue' label' eq el = rw (eq, el, S.labels.zero) (record {
+      added size long queue' label' eq el = rw (eq, ← long, el, S.labels.zero) (record {
         books = T.books;
         search = record {
           ready = record {
@@ -299,7 +290,7 @@ module _ (b d : List ℕ) (m i c : ℕ) (one other queue label : List ℕ) (T : 
           within = omega (arith, low-right c code, S.ready.room_label)
 
           queued : Added m i c (x c) (y c) q (queue_of (length label) (placed (placed queue m i c) (length label + m) (x c) (y c)))
-          queued = pair_added (length label) queue S.ready.room_queue (omega (arith, within)) m i c (x c) (y c) (omega (arith, few, S.ready.room_label))
+          queued = pair_added (length label) queue S.ready.room_queue m i c (x c) (y c) (omega (arith, few, S.ready.room_label))
 
 -- codes that lead to one label are passed over
 pub passed_over : (b d : List ℕ) (m i c r : ℕ) (one other queue label : List ℕ) → Trying b d m i c one other queue label

@@ -1,1 +1,2 @@
 pub mod PairSearch
+pub mod Pairs

@@ -1,6 +1,6 @@
 -- What the functions of the search over pairs of states rely on and ensure. Of two books b and d state x of b has the number x, state y of d the number
 -- states b + 1 + y; 0 and states b + 1 are no state. There is room for a pair for each number.
-use Rattle.std.specs.Prelude.{◌≡◌, List, [], ◌∷◌, ◌++◌, ℕ, suc, ◌+◌, ◌*◌, ◌≤◌, ◌<◌, length, get_or, Option, Some, None, MatchOption}
+use Rattle.std.specs.Prelude.{◌≡◌, List, [], ◌∷◌, ◌++◌, ℕ, suc, ◌+◌, ◌*◌, ◌≤◌, ◌<◌, length, get_or, Option, Some, None}
 use Rattle.std.proofs.Math.Option.{Option as Maybe, none, some}
 use Rattle.automaton.specs.History.{History}
 use Rattle.automaton.specs.Parents.{EarlierParents}
@@ -9,7 +9,6 @@ use Rattle.definitions.specs.Book.{width, states, book_machine}
 use Rattle.definitions.specs.Compare.{comparison}
 use Rattle.search.specs.Trail.{first_at, second_at, history_at}
 use Rattle.comparelabels.specs.LabelBytes.{label_at, OwnFrom}
-use Rattle.comparepairs.specs.declared.Tried.{Tried}
 use Rattle.comparepairs.specs.declared.Difference.{Difference}
 
 -- two books of one width, and room for the search
@@ -64,8 +63,3 @@ Writable (Some d) trail = Traced d.place d.code trail
 pub record Spotted (b d trail : List ℕ) (spot : Option Difference) : Type 0 where
   pub is : comparison b d ≡ spotted spot trail
   pub writable : Writable spot trail
-
--- the codes of pair i are tried
-pub record Outcome (b d : List ℕ) (i : ℕ) (tried : Tried) (queue label : List ℕ) : Type 0 where
-  pub pair : i < tried.pairs
-  pub shows : MatchOption tried.code (PairSearch b d tried.pairs (i + 1) 0 queue label) (λ c. Spotted b d queue (Some (record { place = i; code = c })))

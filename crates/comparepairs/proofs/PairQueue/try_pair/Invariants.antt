@@ -1,0 +1,12 @@
+use Prim.Native.Nat.{◌-◌, ◌≤◌}
+use lib.ListN.{length}
+use Rattle.comparepairs.proofs.PairSearch.{Trying}
+use Rattle.comparepairs.proofs.PairQueue.try_pair.Given as goal
+
+abbrev pub invariant-loop-other : goal.invariant-loop-other
+invariant-loop-other g l =
+    Trying l.first.bytes.now l.second.bytes.now l.self.pairs l.i l.c l.one l.other l.self.queue l.self.label
+    × (l.c ≤ length l.one)
+
+abbrev pub decreases-loop-other : goal.decreases-loop-other
+decreases-loop-other g l = length l.one - l.c
