@@ -41,25 +41,28 @@ fn compare_passed(first: Book, second: Book, history: &mut [u8]) -> Option<usize
 {
     let numbers = first.states() + second.states() + 2;
     if numbers <= 32 {
-        compare_in::<128, 32>(first, second, history)
+        compare_in::<128, 32>(first, second, numbers, history)
     } else {
-        compare_in::<1024, 256>(first, second, history)
+        compare_in::<1024, 256>(first, second, numbers, history)
     }
 }
 
-// The same with arrays that have room for a search over so many numbers.
+// The same with arrays that have room for a search over so many numbers. QUEUE is a parameter of its own, since an array's length is no product of parameters.
 fn compare_in<const QUEUE: usize, const LABELS: usize>(
     first: Book,
     second: Book,
+    numbers: usize,
     history: &mut [u8],
 ) -> Option<usize>
-    requires room { B.states first.bytes.now + B.states second.bytes.now + 2 ≤ LABELS }
-    requires sizes { (LABELS ≤ 256) × (QUEUE ≡ 4 * LABELS) }
+    requires numbers_are { numbers ≡ B.states first.bytes.now + B.states second.bytes.now + 2 }
+    requires room { (numbers ≤ LABELS) × (LABELS ≤ 256) × (QUEUE ≡ 4 * LABELS) }
     requires one_frame { (B.frame first.bytes.now ≡ B.frame second.bytes.now) × (256 ≤ length history.old) }
     ensures answer { difference_in history.new result ≡ comparison first.entry.bytes.now second.entry.bytes.now }
     ensures history { history.new ≡ written (history_bytes (comparison first.entry.bytes.now second.entry.bytes.now)) history.old }
 {
-    let mut pairs = PairQueue::<QUEUE, LABELS>::new(first);
+    let mut queue = [0; QUEUE];
+    let mut label = [0; LABELS];
+    let mut pairs = PairQueue::new(first, &mut queue, &mut label[..numbers]);
     let difference = pairs.first_difference(first, second)?;
     Some(write_difference(pairs.trail(), difference, history))
 }

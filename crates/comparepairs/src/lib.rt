@@ -26,18 +26,16 @@ fn both(one: &[u8], other: &[u8], c: usize) -> bool
 }
 
 // The pairs found, and the labels of the states. The queue has two bytes a place: pair k has its parent's place and its code at place k, as a trail has them, and
-// its states at place LABELS + k. QUEUE is a parameter of its own, since an array's length is no product of parameters.
+// its states at place label.len() + k.
 #[derive(Drop)]
-pub struct PairQueue<const QUEUE: usize, const LABELS: usize> {
-    queue: [u8; QUEUE],
-    label: [u8; LABELS],
+pub struct PairQueue<'a> {
+    queue: &'a mut [u8],
+    label: &'a mut [u8],
     pairs: usize,
-    // What the arrays' types say, for the proofs of callers.
-    pub ghost lengths: { (length queue ≡ QUEUE) × (length label ≡ LABELS) },
-    pub ghost sizes: { (LABELS ≤ 256) × (QUEUE ≡ 4 * LABELS) },
+    pub ghost sizes: { (length label.now ≤ 256) × (4 * length label.now ≤ length queue.now) },
 }
 
-impl<const QUEUE: usize, const LABELS: usize> PairQueue<QUEUE, LABELS> {
+impl<'a> PairQueue<'a> {
     ghost use Rattle.search.specs.Trail.{placed};
     ghost use Rattle.comparelabels.specs.LabelBytes.{label_at, merged, OwnFrom};
     ghost use Rattle.comparelabels.specs.RowLabels.{RowPair};
@@ -45,15 +43,14 @@ impl<const QUEUE: usize, const LABELS: usize> PairQueue<QUEUE, LABELS> {
     ghost use Rattle.comparepairs.specs.Pairs.{Begun, SearchAt, Outcome};
 
     // The first pair, of the two starts, and the labels.
-    pub fn new(first: Book) -> Self
-        requires room { B.states first.bytes.now + 2 < LABELS }
-        requires sizes { (LABELS ≤ 256) × (QUEUE ≡ 4 * LABELS) }
-        ensures { Begun (B.states first.entry.bytes.now + 1) result }
+    pub fn new(first: Book, queue: &'a mut [u8], label: &'a mut [u8]) -> Self
+        requires room { B.states first.bytes.now + 2 < length label.old }
+        requires sizes { (length label.old ≤ 256) × (4 * length label.old ≤ length queue.old) }
+        ensures begun { Begun (B.states first.entry.bytes.now + 1) result }
+        ensures labels { length result.label.now ≡ length label.old }
     {
-        let mut queue = [0; QUEUE];
-        put(&mut queue, LABELS, 1, 1);
-        let mut label = [0; LABELS];
-        begin_labels(&mut label, first.states() + 1);
+        put(queue, label.len(), 1, 1);
+        begin_labels(label, first.states() + 1);
         PairQueue {
             queue,
             label,
@@ -63,25 +60,25 @@ impl<const QUEUE: usize, const LABELS: usize> PairQueue<QUEUE, LABELS> {
 
     // The histories of the pairs.
     pub fn trail(&self) -> &[u8]
-        ensures { result.now ≡ self.now.queue }
+        ensures { result.now ≡ self.now.queue.now }
     {
-        &self.queue
+        self.queue
     }
 
     // Queues the pair that code c leads to from pair i, and merges the labels of its states.
     fn add_pair(&mut self, one: &[u8], other: &[u8], i: usize, c: usize)
-        requires row_pair { RowPair one.now other.now (label_at self.old.label 0) self.old.label × OwnFrom (label_at self.old.label 0) self.old.label }
-        requires both { Both one.now other.now c × (c < 256) × (i < 256) × (self.old.pairs < LABELS) }
+        requires row_pair { RowPair one.now other.now (label_at self.old.label.now 0) self.old.label.now × OwnFrom (label_at self.old.label.now 0) self.old.label.now }
+        requires both { Both one.now other.now c × (c < 256) × (i < 256) × (self.old.pairs < length self.old.label.now) }
         ensures pairs_after { self.new.pairs ≡ self.old.pairs + 1 }
-        ensures queue_after { self.new.queue ≡ placed (placed self.old.queue self.old.pairs i c) (LABELS + self.old.pairs) (get_or one.now c 0) (get_or other.now c 0) }
-        ensures label_after { self.new.label ≡ merged self.old.label (get_or one.now c 0) (label_at self.old.label 0 + get_or other.now c 0) }
+        ensures queue_after { self.new.queue.now ≡ placed (placed self.old.queue.now self.old.pairs i c) (length self.old.label.now + self.old.pairs) (get_or one.now c 0) (get_or other.now c 0) }
+        ensures label_after { self.new.label.now ≡ merged self.old.label.now (get_or one.now c 0) (label_at self.old.label.now 0 + get_or other.now c 0) }
     {
         let m = self.pairs;
         let x = one[c];
         let y = other[c];
-        put(&mut self.queue, m, i as u8, c as u8);
-        put(&mut self.queue, LABELS + m, x, y);
-        merge(&mut self.label, usize::from(x), usize::from(y));
+        put(self.queue, m, i as u8, c as u8);
+        put(self.queue, self.label.len() + m, x, y);
+        merge(self.label, usize::from(x), usize::from(y));
         self.pairs = m + 1;
     }
 
@@ -92,13 +89,14 @@ impl<const QUEUE: usize, const LABELS: usize> PairQueue<QUEUE, LABELS> {
         requires i_is_a_pair { i < self.old.pairs }
         ensures { Outcome first.entry.bytes.now second.entry.bytes.now i result self.new }
     {
-        let place = 2 * (LABELS + i);
+        let place = 2 * (self.label.len() + i);
         let one = first.row(usize::from(self.queue[place]));
         let other = second.row(usize::from(self.queue[place + 1]));
         let mut c = 0;
         // The code to go on from follows from the labels, which each pair that is queued changes.
         loop {
-            let code = first_unlike(one, other, &self.label, c);
+            let label = &mut *self.label;
+            let code = first_unlike(one, other, label, c);
             if !both(one, other, code) {
                 return (code < one.len()).then_some(code);
             }
@@ -110,9 +108,9 @@ impl<const QUEUE: usize, const LABELS: usize> PairQueue<QUEUE, LABELS> {
     // Where two books of one frame differ, if they do. The history of the place found stands in the trail.
     pub fn first_difference(&mut self, first: Book, second: Book) -> Option<Difference>
         requires same_width { B.width first.bytes.now ≡ B.width second.bytes.now }
-        requires room { B.states first.bytes.now + 1 + B.states second.bytes.now < LABELS }
+        requires room { B.states first.bytes.now + 1 + B.states second.bytes.now < length self.old.label.now }
         requires begun { Begun (B.states first.bytes.now + 1) self.old }
-        ensures { Spotted first.entry.bytes.now second.entry.bytes.now self.new.queue result }
+        ensures { Spotted first.entry.bytes.now second.entry.bytes.now self.new.queue.now result }
     {
         let mut i = 0;
         // The number of pairs grows as their codes are tried.

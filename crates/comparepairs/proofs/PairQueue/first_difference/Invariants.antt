@@ -4,7 +4,7 @@ use Rattle.comparepairs.specs.Pairs.{SearchAt}
 use Rattle.comparepairs.proofs.PairQueue.first_difference.Given as goal
 
 abbrev pub invariant-loop-i : goal.invariant-loop-i
-invariant-loop-i g l = SearchAt l.first.bytes.now l.second.bytes.now l.i 0 l.self
+invariant-loop-i l = SearchAt l.first.bytes.now l.second.bytes.now l.i 0 l.self
 
 abbrev pub decreases-loop-i : goal.decreases-loop-i
-decreases-loop-i g l = states l.first.bytes.now + 1 + states l.second.bytes.now - l.i
+decreases-loop-i l = states l.first.bytes.now + 1 + states l.second.bytes.now - l.i

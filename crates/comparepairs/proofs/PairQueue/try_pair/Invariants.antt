@@ -4,9 +4,9 @@ use Rattle.comparepairs.proofs.PairSearch.{Trying}
 use Rattle.comparepairs.proofs.PairQueue.try_pair.Given as goal
 
 abbrev pub invariant-loop-other : goal.invariant-loop-other
-invariant-loop-other g l =
-    Trying l.first.bytes.now l.second.bytes.now l.self.pairs l.i l.c l.one l.other l.self.queue l.self.label
+invariant-loop-other l =
+    Trying l.first.bytes.now l.second.bytes.now l.self.pairs l.i l.c l.one l.other l.self.queue.now l.self.label.now
     × (l.c ≤ length l.one)
 
 abbrev pub decreases-loop-other : goal.decreases-loop-other
-decreases-loop-other g l = length l.one - l.c
+decreases-loop-other l = length l.one - l.c
