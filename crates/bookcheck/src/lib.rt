@@ -1,12 +1,12 @@
 // Rows 12 to 14: what refuses a book. Each row has a test of its own; stated in definitions/specs/Refusal.antt (`book_checks`).
 #![tactic(auto)]
 
-ghost use Rattle.std.specs.Prelude.{◌≡◌, true, false, ◌+◌, ◌-◌, ◌*◌, ◌≤◌, length, MatchOption, IfOk};
+ghost use Rattle.std.specs.Prelude.{◌≡◌, true, false, ◌+◌, ◌-◌, ◌*◌, ◌≤◌, eqb, length, MatchOption, IfOk};
 ghost use Rattle.automaton.specs.Below.{all_below, list_below};
 ghost use Rattle.definitions.specs.Book as B;
 ghost use Rattle.definitions.specs.Refusal.{is_marked, count_holds, header_holds, layout_holds, entries_hold, book_refusal};
 ghost use Rattle.bookcheck.specs.Entries.{greatest as greatest_of, is_possible, events_possible, lesser};
-ghost use Rattle.definitions.specs.Checked.{BookLayout};
+ghost use Rattle.definitions.specs.Checked.{BookHeader, BookLayout};
 ghost use Rattle.refusal.specs.Refused.{refusal_in};
 
 use book::{Book, header};
@@ -68,7 +68,7 @@ fn lay_out(bytes: &[u8]) -> Option<Layout<'_>>
 {
     let requests = requests_in_header(bytes)?;
     let width = header::width(bytes, requests);
-    if bytes.len() != 12 + header::states(bytes) * width {
+    if !is_exact(bytes, width) {
         return None;
     }
     Some(Layout {
@@ -76,6 +76,14 @@ fn lay_out(bytes: &[u8]) -> Option<Layout<'_>>
         requests,
         width,
     })
+}
+
+// Whether the rows of a book whose header holds end where the bytes do.
+fn is_exact(bytes: &[u8], width: usize) -> bool
+    requires { (12 ≤ length bytes.now) × BookHeader bytes.now × (width ≡ B.width bytes.now) }
+    ensures { result ≡ eqb (length bytes.now) (12 + B.states bytes.now * B.width bytes.now) }
+{
+    bytes.len() == 12 + header::states(bytes) * width
 }
 
 // The ranges and the absent counts, by the first 12 bytes. Where they hold, Q, the number of requests.
