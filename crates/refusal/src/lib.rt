@@ -1,4 +1,5 @@
-// The refusals: what turns a call down. Document 01's number and condition of each stand in definitions/specs/Refusal.antt.
+// The refusals: what turns a call down, with document 01's number of each. The conditions stand in definitions/specs: those on a file and on books in Refusal.antt,
+// the others (1, 16 and 18) in the file of each call.
 #![tactic(auto)]
 
 ghost use Rattle.std.specs.Prelude.{◌≡◌};
