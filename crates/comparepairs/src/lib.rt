@@ -48,6 +48,8 @@ impl<'a> PairQueue<'a> {
         requires sizes { (length label.old ≤ 256) × (4 * length label.old ≤ length queue.old) }
         ensures begun { Begun (B.states first.entry.bytes.now + 1) result }
         ensures labels { length result.label.now ≡ length label.old }
+        ensures same_queue { result.queue.ghost_name ≡ queue.entry.ghost_name }
+        ensures same_label { result.label.ghost_name ≡ label.entry.ghost_name }
     {
         put(queue, label.len(), 1, 1);
         begin_labels(label, first.states() + 1);
@@ -72,6 +74,8 @@ impl<'a> PairQueue<'a> {
         ensures pairs_after { self.new.pairs ≡ self.old.pairs + 1 }
         ensures queue_after { self.new.queue.now ≡ placed (placed self.old.queue.now self.old.pairs i c) (length self.old.label.now + self.old.pairs) (get_or one.now c 0) (get_or other.now c 0) }
         ensures label_after { self.new.label.now ≡ merged self.old.label.now (get_or one.now c 0) (label_at self.old.label.now 0 + get_or other.now c 0) }
+        ensures same_queue { self.new.queue.ghost_name ≡ self.old.queue.ghost_name }
+        ensures same_label { self.new.label.ghost_name ≡ self.old.label.ghost_name }
     {
         let m = self.pairs;
         let x = one[c];
@@ -87,7 +91,9 @@ impl<'a> PairQueue<'a> {
     fn try_pair(&mut self, first: Book, second: Book, i: usize) -> Option<usize>
         requires pair_search { SearchAt first.bytes.now second.bytes.now i 0 self.old }
         requires i_is_a_pair { i < self.old.pairs }
-        ensures { Outcome first.entry.bytes.now second.entry.bytes.now i result self.new }
+        ensures outcome { Outcome first.entry.bytes.now second.entry.bytes.now i result self.new }
+        ensures same_queue { self.new.queue.ghost_name ≡ self.old.queue.ghost_name }
+        ensures same_label { self.new.label.ghost_name ≡ self.old.label.ghost_name }
     {
         let place = 2 * (self.label.len() + i);
         let one = first.row(usize::from(self.queue[place]));
@@ -110,7 +116,9 @@ impl<'a> PairQueue<'a> {
         requires same_width { B.width first.bytes.now ≡ B.width second.bytes.now }
         requires room { B.states first.bytes.now + 1 + B.states second.bytes.now < length self.old.label.now }
         requires begun { Begun (B.states first.bytes.now + 1) self.old }
-        ensures { Spotted first.entry.bytes.now second.entry.bytes.now self.new.queue.now result }
+        ensures spotted { Spotted first.entry.bytes.now second.entry.bytes.now self.new.queue.now result }
+        ensures same_queue { self.new.queue.ghost_name ≡ self.old.queue.ghost_name }
+        ensures same_label { self.new.label.ghost_name ≡ self.old.label.ghost_name }
     {
         let mut i = 0;
         // The number of pairs grows as their codes are tried.

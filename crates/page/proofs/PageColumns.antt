@@ -83,29 +83,28 @@ put-over {before} {middle} {after} {xs} {at} n q under over e l =
 
 -- ---- the columns of the requests
 module _ (b : List ℕ) (s : ℕ) where
-  request-entry : (k : ℕ) → events b + k < width b → byte (drop (events b) (row_of b s)) k ≡ entry b s (events b + k)
-  request-entry k l = get_or-drop (events b) (row_of b s) k 0 ∙ rw get_or-take
+  request-entry : (k : ℕ) → byte (drop (12 + (s - 1) * width b + events b) b) k ≡ entry b s (events b + k)
+  request-entry k =
+      let same : 12 + (s - 1) * width b + events b + k ≡ 12 + (s - 1) * width b + (events b + k) = omega arith in
+      get_or-drop (12 + (s - 1) * width b + events b) b k 0 ∙ ap (byte b) same ∙ sym (get_or-drop (12 + (s - 1) * width b) b (events b + k) 0)
 
-  -- the letters of entries that are the requests' are those of the state
-  letters-are : (row : List ℕ) → ((k : ℕ) → events b + k < width b → byte row k ≡ entry b s (events b + k)) → 1 ≤ s
-      → (r : ℕ) → r < requests b → letter_in row r ≡ request_column b s r
+  -- the letters of the entries that are the requests' are those of the state
+  pub letter-column : (row : List ℕ) → row ≡ drop (12 + (s - 1) * width b + events b) b → 1 ≤ s → (r : ℕ) → r < requests b → letter_in row r ≡ request_column b s r
   unfolding telling
-  letters-are row entries some-state r l =
+  letter-column row e some-state r l =
       let next : events b + (2 * r + 1) ≡ reject_code (events b) r = omega arith in
       let accept : byte row (2 * r) ≡ step (book_machine b) s (accept_code (events b) r) =
-      entries (2 * r) (omega arith) ∙ sym (step-is-entry b s (accept_code (events b) r) some-state (omega arith)) in
+      rw e (request-entry (2 * r)) ∙ sym (step-is-entry b s (accept_code (events b) r) some-state (omega arith)) in
       let reject : byte row (2 * r + 1) ≡ step (book_machine b) s (reject_code (events b) r) =
-      entries (2 * r + 1) (omega arith) ∙ ap (entry b s) next ∙ sym (step-is-entry b s (reject_code (events b) r) some-state (omega arith)) in
+      rw e (request-entry (2 * r + 1)) ∙ ap (entry b s) next ∙ sym (step-is-entry b s (reject_code (events b) r) some-state (omega arith)) in
       rw (lt-ltb r (requests b) l, accept, reject)
 
-  -- so are those of the book from the requests of a row on
-  pub letter-column : (row : List ℕ) → row ≡ drop (12 + (s - 1) * width b + events b) b → 1 ≤ s → (r : ℕ) → r < requests b → letter_in row r ≡ request_column b s r
-  letter-column row e = letters-are row entries
-    where
-      entries : (k : ℕ) → events b + k < width b → byte row k ≡ entry b s (events b + k)
-      entries k l =
-          let same : 12 + (s - 1) * width b + events b + k ≡ 12 + (s - 1) * width b + (events b + k) = omega arith in
-          rw e (get_or-drop (12 + (s - 1) * width b + events b) b k 0) ∙ ap (byte b) same ∙ sym (get_or-drop (12 + (s - 1) * width b) b (events b + k) 0)
+  -- so are those of the state's row
+  row-entry : (k : ℕ) → events b + k < width b → byte (drop (events b) (row_of b s)) k ≡ byte (drop (12 + (s - 1) * width b + events b) b) k
+  row-entry k l = get_or-drop (events b) (row_of b s) k 0 ∙ rw get_or-take (sym (request-entry k))
+
+  row-column : 1 ≤ s → (r : ℕ) → r < requests b → letter_in (drop (events b) (row_of b s)) r ≡ request_column b s r
+  row-column some-state r l = rw (row-entry (2 * r) (omega arith), row-entry (2 * r + 1) (omega arith)) (letter-column _ refl some-state r l)
 
   -- letters, and blanks beyond Q
   pub columns_all : (row : List ℕ) → row ≡ drop (events b) (row_of b s) → 1 ≤ s → (q : ℕ) → q ≡ requests b → q ≤ 64
@@ -113,7 +112,7 @@ module _ (b : List ℕ) (s : ℕ) where
   columns_all row e some-state q count l =
       let whole : q + (64 - q) ≡ 64 = omega arith in
       ap (λ (x : List ℕ). x ++ replicate (64 - q) blank)
-      (list-below-same (letter_in row) (request_column b s) q (λ r m. ap (λ (x : List ℕ). letter_in x r) e ∙ letters-are (drop (events b) (row_of b s)) request-entry some-state r (omega arith)))
+      (list-below-same (letter_in row) (request_column b s) q (λ r m. ap (λ (x : List ℕ). letter_in x r) e ∙ row-column some-state r (omega arith)))
       ∙ columns_blank (request_column b s) q (64 - q) (λ r m. rw (le-ltb r (requests b) (omega arith))) ∙ ap (λ (n : ℕ). list_below n (request_column b s)) whole
 
 -- the parts of a line, put one after another

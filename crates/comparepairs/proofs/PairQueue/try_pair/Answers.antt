@@ -28,7 +28,7 @@ loop-other-init c = (
     of_first = (c.row-one.ensures ∙ ap (row_of c.args.first.bytes.now) c.from.ensures);
     of_second = (c.row-other.ensures ∙ ap (row_of c.args.second.bytes.now) c.from-2.ensures);
   },
-  omega arith,
+  (omega arith, (refl, refl)),
 )
 
 pub first_unlike-code-requires-clause-row_pair : goal.first_unlike-code-requires-clause-row_pair
@@ -42,9 +42,9 @@ come c = passed_over _ _ _ _ _ _ _ _ _ _ c.loop-other.invariant.0 c.first_unlike
 pub both-requires : goal.both-requires
 both-requires c = (rows_read _ _ _ _ _ _ _ _ _ (come (goal.at.both-requires c).After-first_unlike-code)).width
 
-pub returns-then-not-both : goal.returns-then-not-both
-returns-then-not-both c =
-    let all = come (goal.at.returns-then-not-both c).After-first_unlike-code in
+pub returns-then-not-both-clause-outcome : goal.returns-then-not-both-clause-outcome
+returns-then-not-both-clause-outcome c =
+    let all = come (goal.at.returns-then-not-both-clause-outcome c).After-first_unlike-code in
     record {
       pair = all.pair;
       shows = tried _ _ _ _ _ _ _ _ _ all c.first_unlike-code.ensures.fails _ c.then_some.ensures c.first_unlike-code.ensures.most (c.both.ensures.1 c.if-not-both.true);
@@ -65,4 +65,5 @@ loop-other-preserved c =
     let all = come (goal.at.loop-other-preserved c).After-first_unlike-code in
     let take = both-take (goal.at.loop-other-preserved c).Else-not-both in
     let queued = added _ _ _ _ _ _ _ _ _ all c.first_unlike-code.ensures.fails take _ refl _ _ made.queue_after made.label_after in
-    (rw made.pairs_after queued, omega (arith, take.code))
+    let same = c.loop-other.invariant.1.1 in
+    (rw made.pairs_after queued, (omega (arith, take.code), (made.same_queue ∙ same.0, made.same_label ∙ same.1)))
