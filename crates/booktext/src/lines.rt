@@ -71,7 +71,7 @@ fn put_findings(out: &mut [u8], at: usize, book: Book) -> usize
     let mut conflict = [0u8; 128];
     let mut missing = [0u8; 128];
     let mut blocked = [0u8; 128];
-    let found = find_all(book, &mut conflict, &mut missing, &mut blocked);
+    let found = find_all(book.bytes, &mut conflict, &mut missing, &mut blocked);
     let next = put_found(out, at, b"conflict ", found.conflict, &conflict);
     let last = put_found(out, next, b"missing ", found.missing, &missing);
     put_blocked(out, last, found.blocked, &blocked)

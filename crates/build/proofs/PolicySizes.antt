@@ -13,10 +13,11 @@ use Rattle.definitions.specs.Refusal.{file_refusal, situations}
 use Rattle.automaton.proofs.Machine.{state-is}
 use Rattle.definitions.proofs.Valuations.{start-valuation-below}
 use Rattle.definitions.proofs.Steps.{start-is-state, situations-few}
+use Rattle.policy.specs.declared.shape.Shape.{Shape}
+use Rattle.policy.specs.Shape.{shape_of}
 use Rattle.policy.specs.Sized.{Passed}
 use Rattle.policy.proofs.PassedFile.{passed}
 use Rattle.build.specs.Room.{RoomFor}
-use Rattle.build.specs.declared.CheckedPolicy.{CheckedPolicy}
 
 module _ (p : List ℕ) (e : file_refusal p ≡ 0) where
   pub has-passed : Passed p
@@ -45,27 +46,24 @@ module _ (p : List ℕ) (e : file_refusal p ≡ 0) where
       let exact = has-passed.sized.exact in
       (omega arith, omega arith)
 
--- ---- the room to work in
-module _ (policy : CheckedPolicy) where
-  abbrev p : List ℕ
-  p = policy.bytes.now
-
-  pub width_most_law : policy.shape.width ≤ 136
-  width_most_law = rw policy.shape_is (width_low p policy.passed)
+-- ---- the room to work in, by the numbers that are kept beside the file
+module _ (p : List ℕ) (s : Shape) (file : file_refusal p ≡ 0) (numbers : s ≡ shape_of p) where
+  pub width_most_law : s.width ≤ 136
+  width_most_law = rw numbers (width_low p file)
 
   -- for at most w codes: 127 rows, and as many images as there are, or 64 of each code
-  pub room-by_images : (w images : ℕ) → policy.shape.width ≤ w → policy.shape.valuations * policy.shape.width ≤ images → RoomFor p policy.shape images (127 * w)
+  pub room-by_images : (w images : ℕ) → s.width ≤ w → s.valuations * s.width ≤ images → RoomFor p s images (127 * w)
   room-by_images w images l fits = (fits, mul-le-mul (min-le_left 127 (length (situations p))) l)
 
-  pub room-by_codes : (w : ℕ) → policy.shape.width ≤ w → RoomFor p policy.shape (64 * w) (127 * w)
-  room-by_codes w l = room-by_images w (64 * w) l (mul-le-mul (rw policy.shape_is (valuations-low p policy.passed)) l)
+  pub room-by_codes : (w : ℕ) → s.width ≤ w → RoomFor p s (64 * w) (127 * w)
+  room-by_codes w l = room-by_images w (64 * w) l (mul-le-mul (rw numbers (valuations-low p file)) l)
 
   -- for at most v valuations besides: their sets but the empty one are all the situations that there can be
-  pub room-by-valuations : (v w : ℕ) → policy.shape.valuations ≤ v → policy.shape.width ≤ w → RoomFor p policy.shape (v * w) ((2 ^ v - 1) * w)
+  pub room-by-valuations : (v w : ℕ) → s.valuations ≤ v → s.width ≤ w → RoomFor p s (v * w) ((2 ^ v - 1) * w)
   room-by-valuations v w few l = (mul-le-mul few l, mul-le-mul sets l)
     where
       all : 2 ^ valuations p ≤ 2 ^ v
-      all = pow_mono (rw policy.shape_is at few)
+      all = pow_mono (rw numbers at few)
 
       sets : min 127 (length (situations p)) ≤ 2 ^ v - 1
       sets = omega (arith, situations-few p, all)

@@ -16,7 +16,6 @@ ghost use Rattle.build.specs.BuiltAnswer.{built_answer};
 ghost use Rattle.build.specs.Room.{RoomFor};
 ghost use Rattle.policy.specs.Shape.{shape_of};
 
-use explore::Images;
 use policy::header;
 use policy::shape::Shape;
 use refusal::Refusal;
@@ -67,18 +66,14 @@ fn build_in(
     ensures book { book.new ≡ build_buffer policy.entry.bytes.now book.old }
 {
     let shape = policy.shape;
+    let w = shape.width;
     let mut found = [0u64; 128];
     images::fill_images(policy.bytes, shape, images);
-    let table = Images {
-        sets: images,
-        valuations: shape.valuations,
-        width: shape.width,
-    };
     let start = Situation::start(shape.start);
-    let Some(n) = explore::explore(table, start, &mut found, raw) else {
+    let Some(n) = explore::explore(images, shape.valuations, w, start, &mut found, raw) else {
         return Err(Refusal::Situations);
     };
-    Ok(write_book(book, policy.bytes, raw, n, shape.width))
+    Ok(write_book(book, policy.bytes, raw, n, w))
 }
 
 // The same, with arrays for room: so many words for the images, and so many bytes for the rows. Each size stays apart from the function that chooses it: that one

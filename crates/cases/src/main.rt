@@ -7,7 +7,7 @@ mod line;
 
 use line::case_line;
 use std::fmt;
-use streams::{StreamError, read_input, report, write_output};
+use streams::{StreamError, read_input, report_error, write_output};
 use text::{first, two_bytes};
 
 // Why a run ends before its input does.
@@ -86,7 +86,7 @@ fn main(rt: HostRuntime) {
         match take_case(&rt) {
             Ok(true) => {}
             Ok(false) => return,
-            Err(error) => return report(&rt, error),
+            Err(error) => return report_error(&rt, error),
         }
     }
 }

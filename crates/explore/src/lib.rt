@@ -181,23 +181,29 @@ fn explore_in(
     Some(n)
 }
 
-// The same, with arrays for room.
-pub fn explore(images: Images, start: Situation, found: &mut [u64], raw: &mut [u8]) -> Option<usize>
+// The same, with arrays for room: the row of valuation `v` has `w` sets, from place `v * w` of `images` on.
+pub fn explore(
+    images: &[u64],
+    valuations: usize,
+    w: usize,
+    start: Situation,
+    found: &mut [u64],
+    raw: &mut [u8],
+) -> Option<usize>
+    requires table { (valuations ≤ 64) × (w ≤ 136) × (valuations * w ≤ length images.now) }
     requires state { 0 < start.set }
-    requires room { (128 ≤ length found.old) × RowsFit (images_machine images.sets.now images.valuations images.width start.set) (length raw.old) }
+    requires room { (128 ≤ length found.old) × RowsFit (images_machine images.now valuations w start.set) (length raw.old) }
     ensures { MatchOption result
-        (Reaches (images_machine images.entry.sets.now images.entry.valuations images.entry.width start.set) found.old raw.old 0 found.new raw.new)
-        (λ n. (0 < n) × Reaches (images_machine images.entry.sets.now images.entry.valuations images.entry.width start.set) found.old raw.old n found.new raw.new) }
+        (Reaches (images_machine images.now valuations w start.set) found.old raw.old 0 found.new raw.new)
+        (λ n. (0 < n) × Reaches (images_machine images.now valuations w start.set) found.old raw.old n found.new raw.new) }
 {
+    let table = Images {
+        sets: images,
+        valuations,
+        width: w,
+    };
     let mut next = [0u64; 136];
     let mut hints = [0u8; 256];
     hints[(start.set % 251) as usize] = 1;
-    explore_in(
-        images,
-        start,
-        found,
-        raw,
-        &mut next[..images.width],
-        &mut hints,
-    )
+    explore_in(table, start, found, raw, &mut next[..w], &mut hints)
 }

@@ -4,6 +4,7 @@
 
 ghost use Rattle.std.specs.Prelude.{◌≡◌, ◌≤◌, length};
 ghost use Rattle.definitions.specs.Answer.{written, history_bytes};
+ghost use Rattle.definitions.specs.Checked.{BookPassed};
 ghost use Rattle.definitions.specs.Verdict as Verdict;
 ghost use Rattle.findings.specs.FindingsOf.{findings_of};
 
@@ -27,13 +28,19 @@ pub struct Findings {
 
 // The findings on a book. The history of each that is found goes to the front of its buffer; the bytes after it are unchanged, and so is all of the buffer of a
 // finding that is none.
-pub fn find_all(book: Book, conflict: &mut [u8], missing: &mut [u8], blocked: &mut [u8]) -> Findings
-    requires { (128 ≤ length conflict.old) × (128 ≤ length missing.old) × (128 ≤ length blocked.old) }
-    ensures answer { findings_of result conflict.new missing.new blocked.new ≡ Verdict.findings book.entry.bytes.now }
-    ensures conflict_after { conflict.new ≡ written (history_bytes (Verdict.found_history (Verdict.conflict book.entry.bytes.now))) conflict.old }
-    ensures missing_after { missing.new ≡ written (history_bytes (Verdict.found_history (Verdict.missing book.entry.bytes.now))) missing.old }
-    ensures blocked_after { blocked.new ≡ written (history_bytes (Verdict.blocked book.entry.bytes.now)) blocked.old }
+pub fn find_all(
+    bytes: &[u8],
+    conflict: &mut [u8],
+    missing: &mut [u8],
+    blocked: &mut [u8],
+) -> Findings
+    requires { BookPassed bytes.now × (128 ≤ length conflict.old) × (128 ≤ length missing.old) × (128 ≤ length blocked.old) }
+    ensures answer { findings_of result conflict.new missing.new blocked.new ≡ Verdict.findings bytes.now }
+    ensures conflict_after { conflict.new ≡ written (history_bytes (Verdict.found_history (Verdict.conflict bytes.now))) conflict.old }
+    ensures missing_after { missing.new ≡ written (history_bytes (Verdict.found_history (Verdict.missing bytes.now))) missing.old }
+    ensures blocked_after { blocked.new ≡ written (history_bytes (Verdict.blocked bytes.now)) blocked.old }
 {
+    let book = Book::new(bytes);
     let mut search = Search::<128, 256>::new();
     search.explore_book(book);
     let first = find(book, &search, Sought::Conflict, conflict);

@@ -15,13 +15,14 @@ fn main(rt: HostRuntime) {
     let mut text = [0u8; 131072];
     match answer_input(&rt, &mut input, &mut text, play) {
         Ok(()) => {}
-        Err(StreamError::Unread) => report(
-            &rt,
-            "play: standard input could not be read; nothing was played",
-        ),
-        Err(StreamError::Unwritten) => report(
-            &rt,
-            "play: standard output could not be written in full",
-        ),
+        Err(StreamError::Unread) => {
+            report(
+                &rt,
+                b"play: standard input could not be read; nothing was played\n",
+            );
+        }
+        Err(StreamError::Unwritten) => {
+            report(&rt, b"play: standard output could not be written in full\n");
+        }
     }
 }

@@ -26,13 +26,17 @@ fn main(rt: HostRuntime) {
     let mut text = [0u8; 2048];
     match answer_input(&rt, &mut input, &mut text, shelf) {
         Ok(()) => {}
-        Err(StreamError::Unread) => report(
-            &rt,
-            "shelf: standard input could not be read; nothing was judged",
-        ),
-        Err(StreamError::Unwritten) => report(
-            &rt,
-            "shelf: standard output could not be written in full",
-        ),
+        Err(StreamError::Unread) => {
+            report(
+                &rt,
+                b"shelf: standard input could not be read; nothing was judged\n",
+            );
+        }
+        Err(StreamError::Unwritten) => {
+            report(
+                &rt,
+                b"shelf: standard output could not be written in full\n",
+            );
+        }
     }
 }

@@ -103,7 +103,13 @@ pub fn answer_input<F: Fn(&[u8], &mut [u8]) -> usize>(
     write_output(rt, &text[..end])
 }
 
-// Writes a line to standard error. Where that fails too there is nobody left to tell.
-pub fn report<D: fmt::Display + Drop>(rt: &HostRuntime, line: D) {
-    let _ = rt.eprintln(line);
+// Writes a line to standard error. Returns false, for a caller that could not go on. Where that fails too there is nobody left to tell.
+pub fn report(rt: &HostRuntime, line: &[u8]) -> bool {
+    let _ = rt.stderr().write_all(line);
+    false
+}
+
+// The same for what an error shows, with the end of the line after it.
+pub fn report_error<D: fmt::Display + Drop>(rt: &HostRuntime, error: D) {
+    let _ = rt.eprintln(error);
 }

@@ -32,5 +32,5 @@ pub fn verdict(
         return Err(Refusal::ShortBuffer);
     }
     let book = check(bytes)?;
-    Ok(find_all(book, conflict, missing, blocked))
+    Ok(find_all(book.bytes, conflict, missing, blocked))
 }

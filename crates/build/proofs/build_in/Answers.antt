@@ -85,22 +85,16 @@ start-start-requires c =
     let policy = c.args.policy in
     omega (arith, start-low policy.bytes.now policy.passed, ap (λ (s : Shape). s.start) policy.shape_is)
 
-pub invariant_of-table : goal.invariant_of-table
-invariant_of-table c =
-    let policy = c.args.policy.bytes.now in
-    let is = c.args.policy.shape_is in
-    let file = c.args.policy.passed in
-    let few = ap (λ (s : Shape). s.valuations) is in
-    let wide = ap (λ (s : Shape). s.width) is in record {
-      within = (omega (arith, valuations-low policy file, few), omega (arith, width_low policy file, wide), omega (arith, c.fill_images.auto.images, c.requires.room.0));
-    }
-
 pub explore-requires : goal.explore-requires
 explore-requires c =
     let policy = c.args.policy.bytes.now in
     let is = c.args.policy.shape_is in
+    let file = c.args.policy.passed in
+    let few = ap (λ (s : Shape). s.valuations) is in
+    let wide = ap (λ (s : Shape). s.width) is in
     let begins = c.start-start.ensures ∙ ap (λ (s : Shape). insert s.start empty_set) is in record {
-      state = subst (λ (set : ℕ). 0 < set) (sym begins) (start-some policy c.args.policy.passed);
+      table = (omega (arith, valuations-low policy file, few), omega (arith, width_low policy file, wide), omega (arith, c.fill_images.auto.images, c.requires.room.0));
+      state = subst (λ (set : ℕ). 0 < set) (sym begins) (start-some policy file);
       room = (omega arith, fits_by policy c.fill_images.new.images c.args.policy.shape _ (length c.args.raw.now) is begins c.fill_images.ensures c.requires.room.1);
     }
 
