@@ -3,9 +3,9 @@
 use mathlib.Core.Path.{◌≡◌, refl, ap, sym, ◌∙◌}
 use mathlib.Core.List.{List}
 use mathlib.Core.Option as Maybe
-use Prim.Native.Nat.{ℕ, ◌≤◌, ◌<◌}
+use Prim.Native.Nat.{ℕ, ◌+◌, ◌≤◌, ◌<◌}
 use native.Mathlib.Omega.{arith}
-use lib.ListN.{length, set, take}
+use lib.ListN.{length, set, length-append, take}
 use Rattle.std.specs.Prelude.{Option, None, Some, Result, Ok, Err}
 use Rattle.automaton.specs.History.{History}
 use Rattle.definitions.specs.Answer.{Answer, refused, given, written, history_bytes}
@@ -45,10 +45,13 @@ module _ (b d buffer : List ℕ) where
 -- the history of a place is written, and then a code after it
 pub difference-written : (trail : List ℕ) (i c n : ℕ) (buffer after : List ℕ) → Traced i c trail → 256 ≤ length buffer → n ≡ length (history_at trail i)
     → after ≡ written (history_at trail i) buffer
-    → set after n c ≡ written (difference_at trail i c) buffer
+    → (n + 1 ≡ length (difference_at trail i c)) × (set after n c ≡ written (difference_at trail i c) buffer)
 difference-written trail i c n buffer after t room en ea =
     let short = history-short trail i t.falls in
-    let h = history_at trail i in rw (ea, en) (written_next h buffer (length h) c refl (omega (arith, t.few)))
+    let h = history_at trail i in (
+      rw length-append (omega arith),
+      rw (ea, en) (written_next h buffer (length h) c refl (omega (arith, t.few))),
+    )
 
 -- ---- nothing is free
 abbrev pub compared_of : Answer (Maybe.Option History) → Result (Option ℕ) Refusal

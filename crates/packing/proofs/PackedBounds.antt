@@ -55,9 +55,9 @@ module _ (b buffer : List ℕ) where
       let is = answer-given (page_refusal b buffer) n (states b * 73) e in
       subst⁻¹ (λ (k : ℕ). k ≤ 9271) is.1 (page_small is.0)
 
-  pub paged_within : (r : Result ℕ Refusal) → paged_answer r ≡ page_answer b buffer → LengthWithin 17284 r
+  pub paged_within : (r : Result ℕ Refusal) → paged_answer r ≡ page_answer b buffer → LengthWithin 9271 r
   paged_within (Err refusal) e = tt
-  paged_within (Ok n) e = omega (arith, page-given n e)
+  paged_within (Ok n) e = page-given n e
 
 -- ---- way
 pub shown-within : (b : List ℕ) (r outcome : ℕ) (buffer : List ℕ) (shown : Result (Option ℕ) Refusal) (after : List ℕ) → length after ≡ length buffer
