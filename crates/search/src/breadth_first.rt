@@ -1,5 +1,5 @@
 // Breadth-first search over the rows of a table. A search that ends early is made of `new` and `note`, with a test of its own.
-ghost use Rattle.std.specs.Prelude.{◌≡◌, ℕ, [], ◌∷◌, ◌++◌, ◌*◌, ◌/◌, ◌≤◌, ◌<◌, length, take};
+ghost use Rattle.std.specs.Prelude.{◌≡◌, ℕ, [], ◌∷◌, ◌++◌, ◌*◌, ◌/◌, ◌≤◌, ◌<◌, ltb, length, take};
 ghost use Rattle.automaton.specs.Parents.{EarlierParents};
 ghost use Rattle.search.specs.Trail.{first_at};
 ghost use Rattle.search.specs.Found.{Numbered};
@@ -88,20 +88,22 @@ impl<const N: usize, const M: usize> Search<N, M> {
         usize::from(self.trail[2 * place])
     }
 
-    // A state that is possible and new goes to the end of those found, with the place and the code that led to it.
-    pub fn note(&mut self, state: usize, from: usize, code: usize)
+    // A state that is possible and new goes to the end of those found, with the place and the code that led to it. Whether it is new.
+    pub fn note(&mut self, state: usize, from: usize, code: usize) -> bool
         requires in_bounds { (state < N) × (from < self.old.count) × (code < 256) }
         requires room { length (add (found_by self.old) state (history_of self.old from ++ (code ∷ []))) < N }
-        ensures { found_by self.new ≡ add (found_by self.old) state (history_of self.old from ++ (code ∷ [])) }
+        ensures found { found_by self.new ≡ add (found_by self.old) state (history_of self.old from ++ (code ∷ [])) }
+        ensures grown { result ≡ ltb self.old.count self.new.count }
     {
         if 0 < self.numbers[state] {
-            return;
+            return false;
         }
         let n = self.count;
         self.order[n] = state as u8;
         trail::put(&mut self.trail, n, from as u8, code as u8);
         self.numbers[state] = (n + 1) as u8;
         self.count = n + 1;
+        true
     }
 
     // The codes are tried, in order, from the state at a place.
@@ -114,7 +116,7 @@ impl<const N: usize, const M: usize> Search<N, M> {
         let row = &rows[start..start + width];
         for (code, &state) in row.iter().enumerate() {
             let there = usize::from(state);
-            self.note(there, place, code);
+            let _ = self.note(there, place, code);
         }
     }
 

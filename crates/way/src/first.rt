@@ -22,9 +22,8 @@ fn visit_for<const N: usize, const M: usize>(
     let state = search.state(place);
     for code in 0..goal.book.width {
         let there = goal.book.entry(state, code);
-        let known = search.count();
-        search.note(there, place, code);
-        if known < search.count() && goal.is_met_at(there) {
+        let is_new = search.note(there, place, code);
+        if is_new && goal.is_met_at(there) {
             return true;
         }
     }

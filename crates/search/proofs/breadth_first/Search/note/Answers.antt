@@ -11,5 +11,5 @@ invariant_of-self-clause-earlier g c = noted_earlier c.args.self.now _ _ _ c.req
 pub invariant_of-self-clause-numbered : goal.invariant_of-self-clause-numbered
 invariant_of-self-clause-numbered g c = noted-numbered c.args.self.now _ _ _ c.requires.in_bounds c.if-self-state-gt0.false c.requires.room c.put.ensures
 
-pub returns : goal.returns
-returns g c = noted_found c.args.self.now _ _ _ c.requires.in_bounds c.if-self-state-gt0.false c.requires.room c.put.ensures
+pub returns-clause-found : goal.returns-clause-found
+returns-clause-found g c = noted_found c.args.self.now _ _ _ c.requires.in_bounds c.if-self-state-gt0.false c.requires.room c.put.ensures

@@ -17,4 +17,4 @@ loop-code-preserved g c =
     let s = c.requires.small_table in
     let here = c.loop-code-test.true in
     let start = (c.state.result - 1) * c.args.width in
-    tried-turn s.0 s.1 c.loop-code.invariant (part-code _ start _ _ here) c.state.result c.state.ensures _ (c.from-there.ensures ∙ part-entry _ start _ _ here) c.note.ensures
+    tried-turn s.0 s.1 c.loop-code.invariant (part-code _ start _ _ here) c.state.result c.state.ensures _ (c.from-there.ensures ∙ part-entry _ start _ _ here) c.note.ensures.found
