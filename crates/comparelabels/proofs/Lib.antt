@@ -1,3 +1,4 @@
 -- Laws that belong to no one function.
 pub mod LabelBytes
 pub mod FirstFailing
+pub mod RowLabels

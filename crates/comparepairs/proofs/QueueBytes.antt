@@ -9,7 +9,7 @@ use Rattle.automaton.proofs.Parents.{Stored}
 use Rattle.automaton.proofs.PairQueue.{Added}
 use Rattle.search.specs.Trail.{first_at, second_at, placed}
 use Rattle.search.proofs.Trails.{placed_first, placed-second, placed-length}
-use Rattle.comparepairs.specs.PairSearch.{queue_of}
+use Rattle.comparepairs.specs.PairSearch.{left_at, right_at, queue_of}
 
 -- a store at place m leaves each place above as it was
 module _ (l : List ℕ) (m x y k : ℕ) (above : m < k) where
@@ -18,6 +18,14 @@ module _ (l : List ℕ) (m x y k : ℕ) (above : m < k) where
 
   second_above : second_at (placed l m x y) k ≡ second_at l k
   second_above = get_or-set_other (set l (2 * m) x) (2 * m + 1) (2 * k + 1) y 0 (omega arith) ∙ get_or-set_other l (2 * m) (2 * k + 1) x 0 (omega arith)
+
+-- the first pair
+module _ (size : ℕ) (queue : List ℕ) (room : 4 * size ≤ length queue) (some : 0 < size) where
+  pub left-put : (x y : ℕ) → left_at size (placed queue size x y) 0 ≡ x
+  left-put x y = let e : size + 0 ≡ size = omega arith in rw e (placed_first queue size x y (omega arith)).last
+
+  pub right-put : (x y : ℕ) → right_at size (placed queue size x y) 0 ≡ y
+  right-put x y = let e : size + 0 ≡ size = omega arith in rw e (placed-second queue size x y (omega arith)).last
 
 module _ (size : ℕ) (queue : List ℕ) (room : 4 * size ≤ length queue) where
   -- pair m is queued

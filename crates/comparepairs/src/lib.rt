@@ -26,16 +26,16 @@ fn both(one: &[u8], other: &[u8], c: usize) -> bool
 }
 
 // The pairs found, and the labels of the states. The queue has two bytes a place: pair k has its parent's place and its code at place k, as a trail has them, and
-// its states at place label.len() + k.
+// its states at place label.len() + k. Each of the two arrays has a lifetime of its own, so that its owner knows what it holds once the pairs are gone.
 #[derive(Drop)]
-pub struct PairQueue<'a> {
-    queue: &'a mut [u8],
-    label: &'a mut [u8],
+pub struct PairQueue<'q, 'l> {
+    queue: &'q mut [u8],
+    label: &'l mut [u8],
     pairs: usize,
     pub ghost sizes: { (length label.now ≤ 256) × (4 * length label.now ≤ length queue.now) },
 }
 
-impl<'a> PairQueue<'a> {
+impl<'q, 'l> PairQueue<'q, 'l> {
     ghost use Rattle.search.specs.Trail.{placed};
     ghost use Rattle.comparelabels.specs.LabelBytes.{label_at, merged, OwnFrom};
     ghost use Rattle.comparelabels.specs.RowLabels.{RowPair};
@@ -43,7 +43,7 @@ impl<'a> PairQueue<'a> {
     ghost use Rattle.comparepairs.specs.Pairs.{Begun, SearchAt, Outcome};
 
     // The first pair, of the two starts, and the labels.
-    pub fn new(first: Book, queue: &'a mut [u8], label: &'a mut [u8]) -> Self
+    pub fn new(first: Book, queue: &'q mut [u8], label: &'l mut [u8]) -> Self
         requires room { B.states first.bytes.now + 2 < length label.old }
         requires sizes { (length label.old ≤ 256) × (4 * length label.old ≤ length queue.old) }
         ensures begun { Begun (B.states first.entry.bytes.now + 1) result }

@@ -1,4 +1,4 @@
--- An array whose first entries are the values of a function, filled through a part of it that is handed on.
+-- Arrays whose first entries are the values of a function: filled entry by entry, and through a part of them that is handed on.
 use mathlib.Core.Path.{◌≡◌, sym, ap, ◌∙◌}
 use mathlib.Core.List.{List, [], ◌++◌, append-nil}
 use Prim.Native.Nat.{ℕ, ◌+◌, ◌-◌, ◌<◌, ◌≤◌}
@@ -12,6 +12,28 @@ use Rattle.automaton.specs.Below.{list_below}
 use Rattle.automaton.proofs.Below.{length-list-below, get_or-list-below}
 use Rattle.automaton.proofs.FilledList.{FilledUpTo}
 use Rattle.rules.specs.Arrays.{Tabled}
+
+pub tabled-none : (f : ℕ → ℕ) (l : List ℕ) → Tabled 0 f l
+tabled-none f l = record { room = omega arith; entry = λ i b. absurd (omega arith) }
+
+-- what a loop leaves that has filled n entries
+pub filled_tabled : {f : ℕ → ℕ} {old l : List ℕ} {i : ℕ} (n : ℕ) → FilledUpTo f old i l → i ≡ n → Tabled n f l
+filled_tabled {f} {old} {l} {i} n filled e =
+    let all : Tabled i f l = record { room = omega (arith, filled.within, filled.long); entry = entry } in
+    rw e at all
+  where
+    entry : (k : ℕ) → k < i → get_or l k 0 ≡ f k
+    entry k b =
+        ap (λ (l : List ℕ). get_or l k 0) filled.is
+        ∙ get_or-append (list_below i f) (drop i old) 0 k (rw (length-list-below f i) b)
+        ∙ get_or-list-below f i k 0 b
+
+-- an array cut down to those entries
+pub tabled-take : (n q : ℕ) (f : ℕ → ℕ) (l : List ℕ) → q ≡ n → Tabled n f l → Tabled n f (take q l)
+tabled-take n q f l e t = record {
+  room = rw (length-take-le q l (omega (arith, t.room))) (omega arith);
+  entry = λ i b. get_or-take q l i 0 (omega arith) ∙ t.entry i b;
+}
 
 -- the part of l that begins at a was handed on, and has come back with n entries
 pub tabled_part : (a n : ℕ) (f g h : ℕ → ℕ) (l part : List ℕ) → length part ≡ length (take (length l - a) (drop a l)) → Tabled a f l → Tabled n g part
