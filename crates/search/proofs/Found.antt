@@ -6,12 +6,12 @@ use Prim.Native.Nat.{ℕ, zero, suc, ◌+◌, ◌*◌, ◌≤◌, ◌<◌}
 use native.Mathlib.Decide.{ℕ_discrete}
 use native.Mathlib.Numerals.{add-one}
 use native.Mathlib.Omega.{arith}
-use lib.ListN.{length, get_or, set, length-append}
+use lib.ListN.{length, get_or, set, length-append, length-set}
 use lib.Seq.{get_or_at, get_or-set_same, get_or-set_other}
 use borrow.Author.Tests.{ne_eqb}
 use Rattle.automaton.specs.History.{History}
 use Rattle.automaton.specs.Machine.{Machine, is_state, after}
-use Rattle.automaton.specs.Explore.{Reached, is_at, add, unreached, reached}
+use Rattle.automaton.specs.Explore.{Reached, is_at, number_in, add, unreached, reached}
 use Rattle.automaton.proofs.Below.{length-list-below, get_or-list-below, place_other}
 use Rattle.automaton.proofs.Explore.{Front, front_at, front_length, add_keeps, add-front, number-end, state_at, reached_history, sound_apart, reached-sound, reached-leads, reached-few}
 use Rattle.automaton.proofs.Congruence.{list-below-same}
@@ -21,10 +21,10 @@ use Rattle.automaton.specs.Parents.{EarlierParents}
 use Rattle.automaton.proofs.Parents.{Stored, trail-same, trail-last, falls-stored}
 use Rattle.definitions.specs.Bytes.{byte}
 use Rattle.search.specs.Trail.{first_at, second_at, placed, history_at}
-use Rattle.search.specs.Found.{reached_at, found_in, Holds, number_of, Numbered}
-use Rattle.search.specs.Searched.{found_by, state_of, history_of}
+use Rattle.search.specs.Found.{reached_at, found_in, Holds, number_of, Arrays, Numbered, started}
+use Rattle.search.specs.Searched.{found_by, state_of}
 use Rattle.search.specs.declared.breadth_first.Search.{Search}
-use Rattle.search.proofs.Trails.{placed_first, placed-second}
+use Rattle.search.proofs.Trails.{placed_first, placed-second, placed-length}
 
 -- ---- what the places hold
 module _ (order trail : List ℕ) (n : ℕ) where
@@ -47,14 +47,22 @@ module _ {found : List Reached} {n : ℕ} {order trail : List ℕ} (H : Holds fo
 pub holds_of : {N M : ℕ} (s : Search N M) {found : List Reached} → found_by s ≡ found → Holds found s.count s.order s.trail
 holds_of s are = record { are = are; falls = s.earlier }
 
+-- the arrays of a search hold what they say
+pub as_found : {found : List Reached} {n : ℕ} {order trail numbers : List ℕ} → Arrays found n order trail numbers → Arrays (found_in n order trail) n order trail numbers
+as_found S = rw S.holds.are S
+
 -- ---- a list that grows at its end, in other arrays: no place is lost, and each holds what it held
-module _ (n : ℕ) (order trail : List ℕ) {more : List Reached} {k : ℕ} {order' trail' : List ℕ} (front : Front (found_in n order trail) more) (H : Holds more k order' trail') where
+module _ (n : ℕ) (order trail : List ℕ) (k : ℕ) (order' trail' : List ℕ) {more : List Reached} (front : Front (found_in n order trail) more) (e : found_in k order' trail' ≡ more) where
+  long : length more ≡ k
+  long = ap length (sym e) ∙ found-length order' trail' k
+
   pub kept_grown : n ≤ k
-  kept_grown = omega (arith, holds-length H, front_length front, found-length order trail n)
+  kept_grown = omega (arith, long, front_length front, found-length order trail n)
 
   pub kept_at : (j : ℕ) → j < n → reached_at order' trail' j ≡ reached_at order trail j
   kept_at j l =
-      sym (holds_at H j (omega (arith, kept_grown))) ∙ front_at front j (omega (arith, found-length order trail n)) ∙ found_at order trail n j l
+      sym (found_at order' trail' k j (omega (arith, kept_grown))) ∙ ap (λ (t : List Reached). get_or t j unreached) e
+      ∙ front_at front j (omega (arith, found-length order trail n)) ∙ found_at order trail n j l
 
 -- ---- what is reached in a machine that has states 1 to k
 module _ (m : Machine) (k : ℕ) (has : HasStates m k) where
@@ -128,6 +136,11 @@ module _ (found : List Reached) (h : History) where
   abbrev with : ℕ → List Reached
   with x = found ++ (record { state = x; history = h } ∷ [])
 
+  -- a state that has a number is not new
+  add_known : (x : ℕ) → 0 < number_of found x → add found x h ≡ found
+  add_known zero p = refl
+  add_known (suc x) p = rw (is_state_law (number_in found (suc x)) p)
+
   -- one that has none is a state, and goes to the end
   add_new : (x : ℕ) → number_of found x ≡ 0 → add found x h ≡ with x
   add_new zero e = absurd (omega arith)
@@ -141,45 +154,38 @@ module _ (found : List Reached) (h : History) where
   number_other x zero n = refl
   number_other x (suc y) n = place_other (is_at (suc y)) found (record { state = x; history = h }) (ne_eqb (suc y) x n)
 
--- ---- state x is noted, found from place i by code c, where it has no number
-module _ {N M : ℕ} (s : Search N M) (x i c : ℕ) (bounds : (x < N) × (i < s.count) × (c < 256)) (none : byte s.numbers x ≤ 0)
-    (room : length (add (found_by s) x (history_of s i ++ (c ∷ []))) < N) where
+-- ---- state x is noted, found from place i by code c
+module _ {n : ℕ} {order trail numbers : List ℕ} (S : Arrays (found_in n order trail) n order trail numbers) (x i c : ℕ) (inside : x < length numbers) (low : i < n) where
+  abbrev found : List Reached
+  found = found_in n order trail
+
   abbrev h : History
-  h = history_of s i ++ (c ∷ [])
+  h = history_at trail i ++ (c ∷ [])
 
-  long : length s.numbers ≡ N
-  long = s.lengths.2
+  pub noted_known : 0 < byte numbers x → Arrays (add found x h) n order trail numbers
+  noted_known p = rw (add_known found h x (omega (arith, S.numbered x inside))) S
 
-  none_of : number_of (found_by s) x ≡ 0
-  none_of = omega (arith, s.numbered x bounds.0)
+  module _ (none : byte numbers x ≤ 0) (fits : length (add found x h) < length numbers) where
+    more : add found x h ≡ with found h x
+    more = add_new found h x (omega (arith, S.numbered x inside))
 
-  more : add (found_by s) x h ≡ with (found_by s) h x
-  more = add_new (found_by s) h x none_of
+    pub noted-room : n + 1 < length numbers
+    noted-room = omega (arith, fits, ap length more ∙ length-append found (record { state = x; history = h } ∷ []), found-length order trail n)
 
-  pub noted-room : s.count + 1 < N
-  noted-room = omega (arith, room, ap length more ∙ length-append (found_by s) (record { state = x; history = h } ∷ []), found-length s.order s.trail s.count)
+    numbered-new : (s : ℕ) → s < length numbers → Dec (s ≡ x) → byte (set numbers x (n + 1)) s ≡ number_of (with found h x) s
+    numbered-new s l (yes e) =
+        rw e (get_or-set_same numbers x (n + 1) 0 inside
+        ∙ omega (arith, number_new found h x (omega (arith, S.numbered x inside)), found-length order trail n))
+    numbered-new s l (no e) = get_or-set_other numbers x s (n + 1) 0 e ∙ S.numbered s l ∙ sym (number_other found h x s e)
 
-  numbered-new : (t : ℕ) → t < length s.numbers → Dec (t ≡ x) → byte (set s.numbers x (s.count + 1)) t ≡ number_of (with (found_by s) h x) t
-  numbered-new t l (yes e) =
-      rw e (get_or-set_same s.numbers x (s.count + 1) 0 (omega (arith, long, bounds))
-      ∙ omega (arith, number_new (found_by s) h x none_of, found-length s.order s.trail s.count))
-  numbered-new t l (no e) =
-      get_or-set_other s.numbers x t (s.count + 1) 0 e ∙ s.numbered t (omega (arith, long)) ∙ sym (number_other (found_by s) h x t e)
-
-  -- the trail is as `put` leaves it
-  module _ {after : List ℕ} (is : after ≡ placed s.trail s.count i c) where
-    noted-new : Holds (add (found_by s) x h) (s.count + 1) (set s.order s.count x) after
-    noted-new = rw (is, more) (stored s.count s.order s.trail s.earlier (omega (arith, s.within, s.lengths)) (omega (arith, s.within, s.lengths, s.sizes)) x i c bounds.1)
-
-    pub noted_found : found_in (s.count + 1) (set s.order s.count x) after ≡ add (found_by s) x h
-    noted_found = noted-new.are
-
-    pub noted_earlier : EarlierParents (s.count + 1) (first_at after)
-    noted_earlier = noted-new.falls
-
-    pub noted-numbered : (t : ℕ) → t < N → Numbered (s.count + 1) (set s.order s.count x) after (set s.numbers x (s.count + 1)) t
-    noted-numbered t l =
-        numbered-new t (omega (arith, long)) (ℕ_discrete t x) ∙ ap (λ (L : List Reached). number_of L t) (sym (noted_found ∙ more))
+    pub noted-new : Arrays (add found x h) (n + 1) (set order n x) (placed trail n i c) (set numbers x (n + 1))
+    noted-new = rw more (record {
+      holds = stored n order trail S.holds.falls (omega (arith, noted-room, S.room_order)) (omega (arith, noted-room, S.room_trail)) x i c low;
+      few = rw length-set S.few;
+      room_order = simp length-set S.room_order;
+      room_trail = rw (length-set, placed-length) S.room_trail;
+      numbered = λ s l. numbered-new s (rw length-set at l) (ℕ_discrete s x);
+    })
 
 -- ---- what noting state x leaves: the places before, and x at the next place where it is new
 -- a list with more than n states has n + 1, with x as the last
@@ -200,18 +206,38 @@ module _ (n : ℕ) (order trail : List ℕ) (x : ℕ) (h : History) where
         state-is x p,
       )
 
-  module _ {r : ℕ} {order' trail' : List ℕ} (H : Holds (add (found_in n order trail) x h) r order' trail') where
+  module _ (r : ℕ) (order' trail' : List ℕ) (e : found_in r order' trail' ≡ add (found_in n order trail) x h) where
     before : (k : ℕ) → k < n → byte order' k ≡ byte order k
-    before k l = ap (λ (t : Reached). t.state) (kept_at n order trail (add-front (found_in n order trail) x h) H k l)
+    before k l = ap (λ (t : Reached). t.state) (kept_at n order trail r order' trail' (add-front (found_in n order trail) x h) e k l)
 
     last : n < r → (r ≡ suc n) × (byte order' n ≡ x) × (1 ≤ x)
     last l =
-        let at = last_added (omega (arith, holds-length H)) in
-        (holds-length H ∙ at.0, ap (λ (t : Reached). t.state) (sym (holds_at H n l)) ∙ at.1, at.2)
+        let long : r ≡ length (add (found_in n order trail) x h) = sym (found-length order' trail' r) ∙ ap length e in
+        let at = last_added (omega arith) in
+        (long ∙ at.0, ap (λ (t : Reached). t.state) (sym (found_at order' trail' r n l) ∙ ap (λ (t : List Reached). get_or t n unreached) e) ∙ at.1, at.2)
 
 module _ {N M : ℕ} (s : Search N M) (x : ℕ) (h : History) (t : Search N M) (e : found_by t ≡ add (found_by s) x h) where
   pub noted-before : (k : ℕ) → k < s.count → state_of t k ≡ state_of s k
-  noted-before = before s.count s.order s.trail x h (holds_of t e)
+  noted-before = before s.count s.order s.trail x h t.count t.order t.trail e
 
   pub noted-last : s.count < t.count → (t.count ≡ suc s.count) × (state_of t s.count ≡ x) × (1 ≤ x)
-  noted-last = last s.count s.order s.trail x h (holds_of t e)
+  noted-last = last s.count s.order s.trail x h t.count t.order t.trail e
+
+-- ---- the arrays of a search are its fields
+pub arrays_of : {N M : ℕ} (s : Search N M) → Arrays (found_by s) s.count s.order s.trail s.numbers
+arrays_of s = record {
+  holds = holds_of s refl;
+  few = omega (arith, s.lengths, s.sizes);
+  room_order = omega (arith, s.lengths);
+  room_trail = omega (arith, s.lengths, s.sizes);
+  numbered = λ t l. s.numbered t (omega (arith, s.lengths));
+}
+
+pub arrays_started : {N M : ℕ} (s : Search N M) → found_by s ≡ started → Arrays started 1 s.order s.trail s.numbers
+arrays_started s e =
+    subst (λ (n : ℕ). Arrays started n s.order s.trail s.numbers) (holds-length (holds_of s e))
+    (subst (λ (L : List Reached). Arrays L s.count s.order s.trail s.numbers) e (arrays_of s))
+
+pub numbered_of : {found : List Reached} {n : ℕ} {order trail numbers : List ℕ} → Arrays found n order trail numbers → (t : ℕ) → t < length numbers
+    → Numbered n order trail numbers t
+numbered_of S t l = S.numbered t l ∙ ap (λ (L : List Reached). number_of L t) (sym S.holds.are)

@@ -1,8 +1,8 @@
 -- The states of a table that a search finds, each with a history, and the arrays that hold them.
-use Rattle.std.specs.Prelude.{◌≡◌, List, [], ◌∷◌, ℕ, zero, suc, ◌/◌, ◌≤◌, ◌<◌, length}
+use Rattle.std.specs.Prelude.{◌≡◌, List, [], ◌∷◌, ℕ, zero, suc, ◌*◌, ◌/◌, ◌≤◌, ◌<◌, length, replicate}
 use Rattle.automaton.specs.Below.{list_below}
 use Rattle.automaton.specs.Machine.{Machine}
-use Rattle.automaton.specs.Explore.{Reached, number_in, reached}
+use Rattle.automaton.specs.Explore.{Reached, number_in, visit, reached}
 use Rattle.automaton.specs.Table.{tabled}
 use Rattle.automaton.specs.Parents.{EarlierParents}
 use Rattle.definitions.specs.Bytes.{byte}
@@ -52,6 +52,33 @@ StatesIn b n order = (k : ℕ) → k < n → (1 ≤ byte order k) × (byte order
 abbrev pub number_of : List Reached → ℕ → ℕ
 number_of found zero = 1
 number_of found (suc s) = number_in found (suc s)
+
+-- the arrays of a search: the third has the numbers of the states below its length, and for as many states there is room in the others
+pub record Arrays (found : List Reached) (n : ℕ) (order trail numbers : List ℕ) : Type 0 where
+  pub holds : Holds found n order trail
+  pub few : length numbers ≤ 128
+  pub room_order : length numbers ≤ length order
+  pub room_trail : 2 * length numbers ≤ length trail
+  pub numbered : (s : ℕ) → s < length numbers → byte numbers s ≡ number_of found s
+
+-- the same before a search that finds at most so many states
+pub record EmptyArrays (most : ℕ) (order trail numbers : List ℕ) : Type 0 where
+  pub enough : most < length numbers
+  pub few : length numbers ≤ 128
+  pub room_order : length numbers ≤ length order
+  pub room_trail : 2 * length numbers ≤ length trail
+  pub empty : numbers ≡ replicate (length numbers) 0
+
+-- what is found once the state at place i of n is visited
+abbrev pub visited_at : List ℕ → ℕ → List ℕ → List ℕ → ℕ → ℕ → List Reached
+visited_at rows w order trail n i = visit (rows_machine rows w) (reached_at order trail i) w (found_in n order trail)
+
+-- it can be visited: it has a row, and at most as many states are found then as there are rows
+pub record CanVisit (rows : List ℕ) (w : ℕ) (order trail : List ℕ) (n i : ℕ) : Type 0 where
+  pub before : i < n
+  pub some : 1 ≤ byte order i
+  pub most : byte order i ≤ length rows / w
+  pub room : length (visited_at rows w order trail n i) ≤ length rows / w
 
 -- only state 1 is found, with no history
 abbrev pub started : List Reached

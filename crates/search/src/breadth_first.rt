@@ -4,7 +4,7 @@ ghost use Rattle.automaton.specs.Parents.{EarlierParents};
 ghost use Rattle.search.specs.Trail.{first_at};
 ghost use Rattle.search.specs.Found.{Numbered};
 
-use crate::trail;
+use crate::{arrays, trail};
 use book::Book;
 
 // The states found stand one after another in `order`, and the histories that found them in `trail`, which has two bytes a place, so that M is twice N: a parameter
@@ -30,7 +30,7 @@ impl<const N: usize, const M: usize> Search<N, M> {
     ghost use Rattle.definitions.specs.Bytes.{byte};
     ghost use Rattle.definitions.specs.Book as B;
     ghost use Rattle.search.specs.Found.{SmallTable, started, states_of, book_states};
-    ghost use Rattle.search.specs.Searched.{found_by, state_of, history_of, visited_at, CanVisit};
+    ghost use Rattle.search.specs.Searched.{found_by, state_of, history_of};
 
     // State 1 is found, with no history.
     pub fn new() -> Self
@@ -38,10 +38,8 @@ impl<const N: usize, const M: usize> Search<N, M> {
         ensures { found_by result ≡ started }
     {
         let mut order = [0; N];
-        order[0] = 1;
         let mut numbers = [0; N];
-        numbers[0] = 1;
-        numbers[1] = 1;
+        arrays::begin(&mut order, &mut numbers);
         Search {
             order,
             trail: [0; M],
@@ -95,29 +93,17 @@ impl<const N: usize, const M: usize> Search<N, M> {
         ensures found { found_by self.new ≡ add (found_by self.old) state (history_of self.old from ++ (code ∷ [])) }
         ensures grown { result ≡ ltb self.old.count self.new.count }
     {
-        if 0 < self.numbers[state] {
-            return false;
-        }
-        let n = self.count;
-        self.order[n] = state as u8;
-        trail::put(&mut self.trail, n, from as u8, code as u8);
-        self.numbers[state] = (n + 1) as u8;
-        self.count = n + 1;
-        true
-    }
-
-    // The codes are tried, in order, from the state at a place.
-    fn visit(&mut self, rows: &[u8], width: usize, place: usize)
-        requires small_table { SmallTable rows.now width × CanVisit rows.now width self.old place }
-        requires room { length rows.now / width < N }
-        ensures { found_by self.new ≡ visited_at rows.now width self.old place }
-    {
-        let start = (self.state(place) - 1) * width;
-        let row = &rows[start..start + width];
-        for (code, &state) in row.iter().enumerate() {
-            let there = usize::from(state);
-            let _ = self.note(there, place, code);
-        }
+        let known = self.count;
+        self.count = arrays::note(
+            &mut self.order,
+            &mut self.trail,
+            &mut self.numbers,
+            known,
+            state,
+            from,
+            code,
+        );
+        known < self.count
     }
 
     // The states that histories reach from state 1 in a table, given as its rows of `width` entries one after another, where only state 1 is found yet: in the
@@ -127,12 +113,13 @@ impl<const N: usize, const M: usize> Search<N, M> {
         requires begun { found_by self.old ≡ started }
         ensures { found_by self.new ≡ states_of rows.now width }
     {
-        let mut i = 0;
-        // The number of states found grows as they are visited.
-        while i < self.count {
-            self.visit(rows, width, i);
-            i += 1;
-        }
+        self.count = arrays::visit_all(
+            rows,
+            width,
+            &mut self.order,
+            &mut self.trail,
+            &mut self.numbers,
+        );
     }
 
     // The same for a book.

@@ -15,7 +15,7 @@ use Rattle.search.specs.Found.{SmallTable, rows_machine, states_of, book_states,
 use Rattle.search.specs.Searched.{found_by, reached_by, history_of, CanVisit}
 use Rattle.search.proofs.Found.{found-length}
 use Rattle.search.proofs.FirstFound.{none_below, first_below, first_of_front}
-use Rattle.search.proofs.SearchTurns.{SearchTurn, searched_begun, searched_few, searched-next, searched-front, searched-turn, searched_done, searched_all}
+use Rattle.search.proofs.SearchTurns.{SearchTurn, can_visit_of, searched_begun, searched_few, searched-next, searched-front, searched-turn, searched_done, searched_all}
 use Rattle.search.proofs.TableRows.{book_rows_law, book-count, book_states_law, states-few}
 use Rattle.way.specs.FirstState.{bytes_of, rows_of, is_goal, NoneFound, OnlyLast, VisitedFor, AtLevel, next_length, next_end, LastIsFirst}
 use Rattle.way.proofs.SearchLevels.{begun_count, begun_state, level_begun, visited_grown, level-visited, level-next}
@@ -39,7 +39,7 @@ module _ (g : Goal) where
     -- state 1 is found
     pub begun : (s : Search N M) → found_by s ≡ started → is_goal g 1 ≡ false → SearchedFor g 0 0 1 s
     begun s e start = record {
-      turn = searched_begun (rows_of g) (width (bytes_of g)) s e;
+      turn = searched_begun (rows_of g) (width (bytes_of g)) e;
       none = λ k l.
           let z : k ≡ 0 = omega (arith, begun_count s e) in
           rw z (ap (is_goal g) (begun_state s e) ∙ start);
@@ -63,7 +63,7 @@ module _ (g : Goal) where
 
       module _ (l : i < s.count) where
         pub can-visit : CanVisit (rows_of g) (width (bytes_of g)) s i
-        can-visit = searched-next (rows_of g) (width (bytes_of g)) small S.turn l
+        can-visit = can_visit_of s (searched-next (rows_of g) (width (bytes_of g)) small S.turn l)
 
         module _ {hit : Bool} {more : Search N M} (visited : VisitedFor g s i hit more) where
           level : AtLevel more i codes end

@@ -40,10 +40,10 @@ module _ {N M : ℕ} (s : Search N M) (e : found_by s ≡ started) where
 -- the state at place i has been visited as far as code c, which leaves more
 module _ (m : Machine) (c : ℕ) {N M : ℕ} (s : Search N M) (i : ℕ) (more : Search N M) (e : found_by more ≡ visit m (reached_by s i) c (found_by s)) where
   pub visited_grown : s.count ≤ more.count
-  visited_grown = kept_grown s.count s.order s.trail (visit-front m (reached_by s i) c (found_by s)) (holds_of more e)
+  visited_grown = kept_grown s.count s.order s.trail more.count more.order more.trail (visit-front m (reached_by s i) c (found_by s)) e
 
   old : (j : ℕ) → j < s.count → history_of more j ≡ history_of s j
-  old j l = ap (λ (u : Reached). u.history) (kept_at s.count s.order s.trail (visit-front m (reached_by s i) c (found_by s)) (holds_of more e) j l)
+  old j l = ap (λ (u : Reached). u.history) (kept_at s.count s.order s.trail more.count more.order more.trail (visit-front m (reached_by s i) c (found_by s)) e j l)
 
   new : (j : ℕ) → s.count ≤ j → j < more.count → length (history_of more j) ≡ suc (length (history_of s i))
   new j low l =

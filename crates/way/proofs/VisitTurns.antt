@@ -15,7 +15,7 @@ use Rattle.search.specs.declared.breadth_first.Search.{Search}
 use Rattle.search.specs.Found.{SmallTable}
 use Rattle.search.specs.Searched.{found_by, state_of, history_of, CanVisit}
 use Rattle.search.proofs.Found.{noted-before, noted-last}
-use Rattle.search.proofs.SearchTurns.{Tried, tried_begun, tried-grown, tried-asks, tried-turn, tried-done}
+use Rattle.search.proofs.SearchTurns.{Tried, tried_begun, can_visit_in, tried-grown, tried-asks, tried-turn, tried-done}
 use Rattle.search.proofs.TableRows.{book_rows_law, book-count, row-entry}
 use Rattle.way.specs.FirstState.{bytes_of, rows_of, is_goal, NoneFound, VisitedFor}
 use Rattle.way.specs.declared.goal.Goal.{Goal}
@@ -26,7 +26,7 @@ pub record VisitTurn {N M : ℕ} (g : Goal) (s₀ : Search N M) (i c : ℕ) (s :
   pub none : NoneFound g s
 
 pub visit_begun : {N M : ℕ} (g : Goal) (s : Search N M) (i : ℕ) → NoneFound g s → VisitTurn g s i 0 s
-visit_begun g s i none = record { tried = tried_begun (rows_of g) (width (bytes_of g)) s i; none = none }
+visit_begun g s i none = record { tried = tried_begun (rows_of g) (width (bytes_of g)) s.count s.order s.trail i; none = none }
 
 module _ (g : Goal) {N M : ℕ} {s₀ : Search N M} {i : ℕ} (can : CanVisit (rows_of g) (width (bytes_of g)) s₀ i) where
   small : SmallTable (rows_of g) (width (bytes_of g))
@@ -42,7 +42,7 @@ module _ (g : Goal) {N M : ℕ} {s₀ : Search N M} {i : ℕ} (can : CanVisit (r
     visit-done l = record {
       tried = width (bytes_of g);
       within = omega arith;
-      are = tried-done small can T.tried l;
+      are = tried-done small (can_visit_in can) T.tried l;
       missed = λ e. (refl, T.none);
       found = λ e. absurd (false≢true e);
     }
@@ -54,11 +54,11 @@ module _ (g : Goal) {N M : ℕ} {s₀ : Search N M} {i : ℕ} (can : CanVisit (r
 
       -- what `note` asks for
       pub visit-asks : states (bytes_of g) < N → ((x < N) × (i < s.count) × (c < 256)) × (length (add (found_by s) x (history_of s i ++ (c ∷ []))) < N)
-      visit-asks enough = tried-asks small can T.tried l y ey x in_row (omega (arith, book-count (bytes_of g) g.book.passed))
+      visit-asks enough = tried-asks small (can_visit_in can) T.tried l y ey x in_row (omega (arith, book-count (bytes_of g) g.book.passed))
 
       module _ (more : Search N M) (e : found_by more ≡ add (found_by s) x (history_of s i ++ (c ∷ []))) where
         next : Tried (rows_of g) (width (bytes_of g)) s₀ i (c + 1) more
-        next = tried-turn small can T.tried l y ey x in_row e
+        next = tried-turn small (can_visit_in can) T.tried l y ey x in_row e
 
         before : (j : ℕ) → j < s.count → is_goal g (state_of more j) ≡ false
         before j lj = ap (is_goal g) (noted-before s x (history_of s i ++ (c ∷ [])) more e j lj) ∙ T.none j lj
@@ -79,7 +79,7 @@ module _ (g : Goal) {N M : ℕ} {s₀ : Search N M} {i : ℕ} (can : CanVisit (r
           are = next.are;
           missed = λ z. absurd (true≢false z);
           found = λ _. (
-            omega (arith, tried-grown small can T.tried),
+            omega (arith, tried-grown small (can_visit_in can) T.tried),
             record {
               last = s.count;
               is = (last new).0;
