@@ -103,7 +103,7 @@ impl<const N: usize, const M: usize> Search<N, M> {
             from,
             code,
         );
-        known < self.count
+        self.count != known
     }
 
     // The states that histories reach from state 1 in a table, given as its rows of `width` entries one after another, where only state 1 is found yet: in the
