@@ -93,17 +93,19 @@ impl<const N: usize, const M: usize> Search<N, M> {
         ensures found { found_by self.new ≡ add (found_by self.old) state (history_of self.old from ++ (code ∷ [])) }
         ensures grown { result ≡ ltb self.old.count self.new.count }
     {
-        let known = self.count;
-        self.count = arrays::note(
+        let is_new = arrays::note_new(
             &mut self.order,
             &mut self.trail,
             &mut self.numbers,
-            known,
+            self.count,
             state,
             from,
             code,
         );
-        self.count != known
+        if is_new {
+            self.count += 1;
+        }
+        is_new
     }
 
     // The states that histories reach from state 1 in a table, given as its rows of `width` entries one after another, where only state 1 is found yet: in the
