@@ -93,7 +93,9 @@ fn visit(
     let mut k = n;
     for (code, &state) in row.iter().enumerate() {
         let there = usize::from(state);
-        k = note(order, trail, numbers, k, there, i, code);
+        if note_new(order, trail, numbers, k, there, i, code) {
+            k += 1;
+        }
     }
     k
 }
