@@ -1,8 +1,7 @@
 // Breadth-first search over the rows of a table, in arrays that the caller lends. The states found stand one after another in `order`, and the histories that found
 // them in `trail`. `numbers` has the number of each state found, counted from 1, and 1 for 0, which is no state, so that one test decides whether a code leads to a
 // new one. A search that ends early is made of `begin` and `note`, with a test of its own.
-ghost use Rattle.std.specs.Prelude.{◌≡◌, [], ◌∷◌, ◌++◌, ◌+◌, ◌/◌, ◌≤◌, ◌<◌, length, set};
-ghost use Rattle.automaton.specs.Below.{one};
+ghost use Rattle.std.specs.Prelude.{◌≡◌, [], ◌∷◌, ◌++◌, ◌/◌, ◌≤◌, ◌<◌, length, set};
 ghost use Rattle.automaton.specs.Explore.{add};
 ghost use Rattle.definitions.specs.Book as Book;
 ghost use Rattle.definitions.specs.Checked.{BookPassed};
@@ -21,34 +20,7 @@ pub fn begin(order: &mut [u8], numbers: &mut [u8])
     numbers[1] = 1;
 }
 
-// A state that is possible and new goes to the end of the `n` found, with the place and the code that led to it. Whether it is new: a caller that keeps the count need
-// not compare it.
-#[inline(always)]
-pub(crate) fn note_new(
-    order: &mut [u8],
-    trail: &mut [u8],
-    numbers: &mut [u8],
-    n: usize,
-    state: usize,
-    from: usize,
-    code: usize,
-) -> bool
-    requires arrays { Arrays (found_in n order.old trail.old) n order.old trail.old numbers.old }
-    requires state_in_bounds { (state < length numbers.old) × (from < n) × (code < 256) }
-    requires code_in_bounds { length (add (found_in n order.old trail.old) state (history_at trail.old from ++ (code ∷ []))) < length numbers.old }
-    ensures { Arrays (add (found_in n order.old trail.old) state (history_at trail.old from ++ (code ∷ [])))
-        (n + one result) order.new trail.new numbers.new }
-{
-    if 0 < numbers[state] {
-        return false;
-    }
-    order[n] = state as u8;
-    put(trail, n, from as u8, code as u8);
-    numbers[state] = (n + 1) as u8;
-    true
-}
-
-// The same. Returns how many there are then.
+// A state that is possible and new goes to the end of the `n` found, with the place and the code that led to it. Returns how many there are then.
 #[inline(always)]
 pub fn note(
     order: &mut [u8],
@@ -65,11 +37,14 @@ pub fn note(
     ensures { Arrays (add (found_in n order.old trail.old) state (history_at trail.old from ++ (code ∷ [])))
         result order.new trail.new numbers.new }
 {
-    if note_new(order, trail, numbers, n, state, from, code) {
-        n + 1
-    } else {
-        n
+    if 0 < numbers[state] {
+        return n;
     }
+    let more = n + 1;
+    order[n] = state as u8;
+    put(trail, n, from as u8, code as u8);
+    numbers[state] = more as u8;
+    more
 }
 
 // The codes are tried, in order, from the state at place `i` of the `n` found. Returns how many there are then.
@@ -93,9 +68,7 @@ fn visit(
     let mut k = n;
     for (code, &state) in row.iter().enumerate() {
         let there = usize::from(state);
-        if note_new(order, trail, numbers, k, there, i, code) {
-            k += 1;
-        }
+        k = note(order, trail, numbers, k, there, i, code);
     }
     k
 }

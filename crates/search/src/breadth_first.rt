@@ -93,7 +93,8 @@ impl<const N: usize, const M: usize> Search<N, M> {
         ensures found { found_by self.new ≡ add (found_by self.old) state (history_of self.old from ++ (code ∷ [])) }
         ensures grown { result ≡ ltb self.old.count self.new.count }
     {
-        let is_new = arrays::note_new(
+        let is_new = self.numbers[state] == 0;
+        self.count = arrays::note(
             &mut self.order,
             &mut self.trail,
             &mut self.numbers,
@@ -102,9 +103,6 @@ impl<const N: usize, const M: usize> Search<N, M> {
             from,
             code,
         );
-        if is_new {
-            self.count += 1;
-        }
         is_new
     }
 

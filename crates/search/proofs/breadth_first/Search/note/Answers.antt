@@ -1,10 +1,16 @@
--- `note` meets its contract: its arrays are as `note_new` leaves those that a caller lends.
+-- `note` meets its contract: its arrays are as `note` leaves those that a caller lends.
 use native.Mathlib.Omega.{arith}
-use Rattle.search.proofs.Found.{numbered_of, holds-length}
+use Rattle.search.proofs.Found.{arrays_of, numbered_of, holds-length, noted-grows}
 use Rattle.search.proofs.breadth_first.Search.note.Goals as goal
 
 pub invariant_of-self-clause-within : goal.invariant_of-self-clause-within
-invariant_of-self-clause-within g c = omega (arith, c.requires.room, holds-length c.if-is_new.ensures.holds)
+invariant_of-self-clause-within g c = omega (arith, c.requires.room, holds-length c.note-self.ensures.holds)
 
 pub invariant_of-self-clause-numbered : goal.invariant_of-self-clause-numbered
-invariant_of-self-clause-numbered g c t l = numbered_of c.if-is_new.ensures t (omega (arith, l, c.note_new-is_new.auto.numbers, c.args.self.now.lengths))
+invariant_of-self-clause-numbered g c t l = numbered_of c.note-self.ensures t (omega (arith, l, c.note-self.auto.numbers, c.args.self.now.lengths))
+
+pub returns-clause-grown : goal.returns-clause-grown
+returns-clause-grown g c =
+    let before = c.args.self.now in
+    noted-grows (arrays_of before) c.args.state c.args.from c.args.code (omega (arith, c.requires.in_bounds, before.lengths)) c.requires.in_bounds.1
+    (omega (arith, c.requires.room, before.lengths)) (holds-length c.note-self.ensures.holds)
