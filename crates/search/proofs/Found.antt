@@ -8,8 +8,7 @@ use native.Mathlib.Numerals.{add-one}
 use native.Mathlib.Omega.{arith}
 use lib.ListN.{length, get_or, set, length-append, length-set}
 use lib.Seq.{get_or_at, get_or-set_same, get_or-set_other}
-use lib.Dec.{eqb, ltb, eqb-suc-zero}
-use borrow.Author.Tests.{ne_eqb, lt-ltb, le-ltb}
+use borrow.Author.Tests.{ne_eqb}
 use Rattle.automaton.specs.History.{History}
 use Rattle.automaton.specs.Machine.{Machine, is_state, after}
 use Rattle.automaton.specs.Explore.{Reached, is_at, number_in, add, unreached, reached}
@@ -188,13 +187,9 @@ module _ {n : ℕ} {order trail numbers : List ℕ} (S : Arrays (found_in n orde
       numbered = λ s l. numbered-new s (rw length-set at l) (ℕ_discrete s x);
     })
 
-  -- a caller that sees that the state had no number knows that the count grows, and only then
-  pub noted-grows : length (add found x h) < length numbers → {r : ℕ} → r ≡ length (add found x h) → eqb (byte numbers x) 0 ≡ ltb n r
-  noted-grows fits {r} e = go (byte numbers x) refl
-    where
-      go : (m : ℕ) → byte numbers x ≡ m → eqb m 0 ≡ ltb n r
-      go zero q = sym (lt-ltb n r (omega (arith, e, holds-length (noted-new (omega (arith, q)) fits).holds)))
-      go (suc m) q = rw (eqb-suc-zero m) (sym (le-ltb n r (omega (arith, e, holds-length (noted_known (omega (arith, q))).holds))))
+  -- the count grows where the state had no number
+  pub noted-grows : byte numbers x ≤ 0 → length (add found x h) < length numbers → {r : ℕ} → r ≡ length (add found x h) → n < r
+  noted-grows none fits e = omega (arith, e, holds-length (noted-new none fits).holds)
 
 -- ---- what noting state x leaves: the places before, and x at the next place where it is new
 -- a list with more than n states has n + 1, with x as the last

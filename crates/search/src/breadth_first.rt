@@ -93,7 +93,9 @@ impl<const N: usize, const M: usize> Search<N, M> {
         ensures found { found_by self.new ≡ add (found_by self.old) state (history_of self.old from ++ (code ∷ [])) }
         ensures grown { result ≡ ltb self.old.count self.new.count }
     {
-        let is_new = self.numbers[state] == 0;
+        if 0 < self.numbers[state] {
+            return false;
+        }
         self.count = arrays::note(
             &mut self.order,
             &mut self.trail,
@@ -103,7 +105,7 @@ impl<const N: usize, const M: usize> Search<N, M> {
             from,
             code,
         );
-        is_new
+        true
     }
 
     // The states that histories reach from state 1 in a table, given as its rows of `width` entries one after another, where only state 1 is found yet: in the
