@@ -56,6 +56,10 @@ module _ (b : List ℕ) where
     unfolding tell_answer tell_refusal
     tell-inside e h l = rw (e, h, lt-ltb r (requests b) l)
 
+    -- what is told of one of the requests at one of the states
+    pub tell_is : 0 ≡ state_refusal b s → state_holds b s ≡ true → r < requests b → tell_answer b s r ≡ given (telling b s r)
+    tell_is e h l = sym (tell-inside (state-passes s e) h l)
+
   -- ---- a step
   module _ (s c : ℕ) where
     -- the number and the state that a step returns

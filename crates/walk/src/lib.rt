@@ -23,6 +23,7 @@ pub fn open(bytes: &[u8]) -> Result<usize, Refusal>
 }
 
 // What is possible for a request at a state of the book.
+#[tactic(auto, using(crate::proofs::CallCases::tell_is))]
 pub fn tell(bytes: &[u8], state: usize, request: usize) -> Result<Telling, Refusal>
     ensures { answer_in telling_of result ≡ tell_answer bytes.now state request }
 {

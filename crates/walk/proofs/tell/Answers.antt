@@ -1,12 +1,11 @@
--- `tell` meets its contract: each way out is a case of CallCases.
-use Rattle.std.proofs.Common.{◌≤◌, ◌<◌, ◌∙◌, ap, arith}
+-- `tell` meets its contract: the ways out that refuse the call. What is told the check finds by `tell_is`.
+use Rattle.std.proofs.Common.{◌≤◌, arith}
 use Rattle.std.proofs.lemmas.Result.{err_from_is_err_and}
 use mathlib.Core.Bool.{and-false}
 use borrow.Author.Tests.{le-ltb}
-use Rattle.definitions.specs.Answer.{given}
 use Rattle.definitions.specs.Book.{requests}
 use Rattle.refusal.proofs.Refused.{some_number}
-use Rattle.walk.proofs.CallCases.{state-passes, tell-err, tell-outside, tell-inside}
+use Rattle.walk.proofs.CallCases.{state-passes, tell-err, tell-outside}
 use Rattle.walk.proofs.tell.Goals as goal
 
 pub returns-in_err-book : goal.returns-in_err-book
@@ -21,11 +20,3 @@ returns-then-request-book c =
     let e = rw h.book.0 at c.in_ok-book.book.requests_are in
     let beyond : requests a.bytes.now ≤ a.request = omega (arith, e, c.if-request-book.true) in
     tell-outside a.bytes.now a.state a.request (state-passes a.bytes.now a.state h.refusal) (simp (le-ltb a.request (requests a.bytes.now) beyond, and-false))
-
-pub returns : goal.returns
-returns c =
-    let a = c.args in
-    let h = c.in_ok-book.ensures in
-    let e = rw h.book.0 at c.in_ok-book.book.requests_are in
-    let below : a.request < requests a.bytes.now = omega (arith, e, c.if-request-book.false) in
-    ap given (rw h.book.0 at c.telling.ensures) ∙ tell-inside a.bytes.now a.state a.request (state-passes a.bytes.now a.state h.refusal) h.book.1 below
