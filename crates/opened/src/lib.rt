@@ -50,9 +50,10 @@ pub fn tell<'a>(book: OpenedBook<'a>, request: usize) -> Result<Telling, Refusal
 pub fn step<'a>(book: OpenedBook<'a>, code: usize) -> Opened<'a>
     ensures { result ≡ step_of book.entry code }
 {
-    let (number, state) = match walk::step(book.bytes, book.state, code) {
-        Ok(there) => (0, there),
-        Err(refusal) => (usize::from(refusal.number()), book.state),
+    let mut state = book.state;
+    let number = match walk::step(book.bytes, &mut state, code) {
+        Ok(()) => 0,
+        Err(refusal) => usize::from(refusal.number()),
     };
     Opened {
         number,

@@ -20,6 +20,7 @@ pub fn put_play(book: &[u8], codes: &[u8], out: &mut [u8]) -> usize
 }
 
 // The lines of the steps from a state of the book.
+#[tactic(auto, using(crate::proofs::StepLines::step_stands))]
 fn put_steps(book: &[u8], start: usize, codes: &[u8], out: &mut [u8], at: usize) -> usize
     requires { Stands book.now start × (at + 512 * length codes.now ≤ length out.old) }
     ensures { Put out.old at (step_lines book.now start codes.now) out.new result × (result ≤ at + 512 * length codes.now) }
@@ -27,9 +28,11 @@ fn put_steps(book: &[u8], start: usize, codes: &[u8], out: &mut [u8], at: usize)
     let mut state = start;
     let mut next = at;
     for &code in codes {
-        let stepped = walk::step(book, state, usize::from(code));
+        let stepped = match walk::step(book, &mut state, usize::from(code)) {
+            Ok(()) => Ok(state),
+            Err(refusal) => Err(refusal),
+        };
         next = put_answer(out, next, book, stepped);
-        state = stepped.unwrap_or(state);
     }
     next
 }

@@ -34,21 +34,23 @@ pub fn tell(bytes: &[u8], state: usize, request: usize) -> Result<Telling, Refus
     Ok(book.telling(state, request))
 }
 
-// The state that the step with a code leads to.
-pub fn step(bytes: &[u8], state: usize, code: usize) -> Result<usize, Refusal>
-    ensures refusal { refusal_in result ≡ step_refusal bytes.now state code }
-    ensures state { IfOk result (λ there. there ≡ step_state bytes.now state code) }
-    ensures unchanged { OnErr result (step_state bytes.now state code ≡ state) }
+// Takes the step with a code: the state moves to where it leads. Where the step is refused the state is unchanged.
+#[tactic(auto, using(crate::proofs::CallCases::step_cases))]
+pub fn step(bytes: &[u8], state: &mut usize, code: usize) -> Result<(), Refusal>
+    ensures refusal { refusal_in result ≡ step_refusal bytes.now state.old code }
+    ensures state { state.new ≡ step_state bytes.now state.old code }
+    ensures unchanged { OnErr result (state.new ≡ state.old) }
 {
-    let walked = book_at(bytes, state)?;
+    let walked = book_at(bytes, *state)?;
     if code >= walked.width {
         return Err(Refusal::NotInBook);
     }
-    let there = walked.entry(state, code);
+    let there = walked.entry(*state, code);
     if there == 0 {
         return Err(Refusal::NotInBook);
     }
-    Ok(there)
+    *state = there;
+    Ok(())
 }
 
 // A book that rows 12 to 14 let pass, where the number is one of its states, 1 to n.
