@@ -201,14 +201,14 @@ module _ {raw : List ℕ} {w : ℕ} {classes : List ℕ} (now : InRounds raw w c
           let class = same_class t pt (omega arith) (same-list-true _ _ both.1) in
           omega (arith, named.low t (omega (arith, count)), new_class_at s)
 
-      pub search-passed : next ≡ take s (next_round raw w classes) → is_first_alike raw w classes next s t ≡ false → t + 1 ≤ byte (next_round raw w classes) s
+      pub search-passed : take s next ≡ take s (next_round raw w classes) → is_first_alike raw w classes next s t ≡ false → t + 1 ≤ byte (next_round raw w classes) s
       search-passed before e = go (dec_lt t (byte (next_round raw w classes) s))
         where
           alike : t ≡ f → is_first_alike raw w classes next s t ≡ true
           alike is =
               let old : byte classes t ≡ byte classes s = class_at t ∙ ap (class_of cs) is ∙ together ∙ sym (class_at s) in
               let new : byte next t ≡ t =
-              ap (λ (l : List ℕ). get_or l t 0) before ∙ get_or-take s (next_round raw w classes) t 0 b
+              sym (get_or-take s next t 0 b) ∙ ap (λ (l : List ℕ). get_or l t 0) before ∙ get_or-take s (next_round raw w classes) t 0 b
               ∙ new_class_at t ∙ ap (class_of fine) is ∙ own ∙ sym is in
               let same : looked_up classes w (drop ((t - 1) * w) raw) ≡ looked_up classes w (drop ((s - 1) * w) raw) =
               row_of t pt (omega arith) ∙ ap (λ (x : ℕ). get_or (class_rows cs rows) (x - 1) []) is ∙ equal ∙ sym (row_of s p (omega arith)) in
@@ -237,12 +237,9 @@ module _ {raw : List ℕ} {w : ℕ} {classes : List ℕ} (some : ∥ InRounds ra
     pub some-low : byte (next_round raw w classes) s ≤ s
     some-low = ∥∥₁_elim some le_prop (λ now. class_low now s p l)
 
-    pub before-length : (before : List ℕ) → before ≡ take s (next_round raw w classes) → length before ≡ s
-    before-length before known = ap length known ∙ length-take-le s (next_round raw w classes) (omega (arith, some-length))
+    module _ (next : List ℕ) (known : take s next ≡ take s (next_round raw w classes)) (t : ℕ) (pt : 1 ≤ t) (b : t < s) (not_after : t ≤ byte (next_round raw w classes) s) where
+      pub some-found : is_first_alike raw w classes next s t ≡ true → t ≡ byte (next_round raw w classes) s
+      some-found e = ∥∥₁_elim some (ℕ_set _ _) (λ now. search-found now s p l next t pt b not_after e)
 
-    module _ (before : List ℕ) (known : before ≡ take s (next_round raw w classes)) (t : ℕ) (pt : 1 ≤ t) (b : t < s) (not_after : t ≤ byte (next_round raw w classes) s) where
-      pub some-found : is_first_alike raw w classes before s t ≡ true → t ≡ byte (next_round raw w classes) s
-      some-found e = ∥∥₁_elim some (ℕ_set _ _) (λ now. search-found now s p l before t pt b not_after e)
-
-      pub some-passed : is_first_alike raw w classes before s t ≡ false → t + 1 ≤ byte (next_round raw w classes) s
-      some-passed e = ∥∥₁_elim some le_prop (λ now. search-passed now s p l before t pt b not_after known e)
+      pub some-passed : is_first_alike raw w classes next s t ≡ false → t + 1 ≤ byte (next_round raw w classes) s
+      some-passed e = ∥∥₁_elim some le_prop (λ now. search-passed now s p l next t pt b not_after known e)

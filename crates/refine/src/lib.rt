@@ -46,32 +46,32 @@ struct Round<'a> {
 impl<'a> Round<'a> {
     ghost use Rattle.refine.specs.NextClasses.{next_classes};
 
-    // Whether state `t` is the first of a new class inside the present class of state `s`. `before` has the new classes of the states before `s`.
-    fn is_first(&self, before: &[u8], s: usize, t: usize) -> bool
-        requires { (t < length before.now) × (t < s) × (s < length self.now.classes.now) }
-        ensures { result ≡ is_first self.now.classes.now before.now s t }
+    // Whether state `t` is the first of a new class inside the present class of state `s`.
+    fn is_first(&self, next: &[u8], s: usize, t: usize) -> bool
+        requires { (t < s) × (s < length self.now.classes.now) × (length next.now ≡ length self.now.classes.now) }
+        ensures { result ≡ is_first self.now.classes.now next.now s t }
     {
-        self.classes[t] == self.classes[s] && usize::from(before[t]) == t
+        self.classes[t] == self.classes[s] && usize::from(next[t]) == t
     }
 
     // The same, and whether it leads to the same classes.
-    fn is_first_alike(&self, before: &[u8], s: usize, t: usize) -> bool
-        requires { (1 ≤ t) × (t < length before.now) × (t < s) × (s < length self.now.classes.now) }
-        ensures { result ≡ is_first_alike self.now.table.rows.now self.now.table.width self.now.classes.now before.now s t }
+    fn is_first_alike(&self, next: &[u8], s: usize, t: usize) -> bool
+        requires { (1 ≤ t) × (t < s) × (s < length self.now.classes.now) × (length next.now ≡ length self.now.classes.now) }
+        ensures { result ≡ is_first_alike self.now.table.rows.now self.now.table.width self.now.classes.now next.now s t }
     {
-        self.is_first(before, s, t)
+        self.is_first(next, s, t)
             && same_classes(self.table.row(t), self.table.row(s), self.classes)
     }
 
     // The new class of state `s`: the first state that leads to the same classes. Only the first states of new classes inside its present class are compared,
-    // since a round divides classes and never joins them.
-    fn first_alike(&self, before: &[u8], s: usize) -> usize
-        requires s_in_bounds { (1 ≤ s) × (s < length self.now.classes.now) }
-        requires before_value { before.now ≡ take s (next_classes self.now) }
+    // since a round divides classes and never joins them. `next` has the new classes of the states before it.
+    fn first_alike(&self, next: &[u8], s: usize) -> usize
+        requires s_in_bounds { (1 ≤ s) × (s < length self.now.classes.now) × (length next.now ≡ length self.now.classes.now) }
+        requires next_value { take s next.now ≡ take s (next_classes self.now) }
         ensures { result ≡ byte (next_classes self.now) s }
     {
         for t in usize::from(self.classes[s])..s {
-            if self.is_first_alike(before, s, t) {
+            if self.is_first_alike(next, s, t) {
                 return t;
             }
         }
@@ -79,16 +79,16 @@ impl<'a> Round<'a> {
     }
 
     // The same, without a search where the state keeps its class: neither it nor the first state of its class leads to a state that the round before moved.
-    fn next_class(&self, before: &[u8], s: usize) -> usize
-        requires s_in_bounds { (1 ≤ s) × (s < length self.now.classes.now) }
-        requires before_value { before.now ≡ take s (next_classes self.now) }
+    fn next_class(&self, next: &[u8], s: usize) -> usize
+        requires s_in_bounds { (1 ≤ s) × (s < length self.now.classes.now) × (length next.now ≡ length self.now.classes.now) }
+        requires next_value { take s next.now ≡ take s (next_classes self.now) }
         ensures { result ≡ byte (next_classes self.now) s }
     {
         let t = usize::from(self.classes[s]);
         if (self.leads[s] | self.leads[t]) & self.moved == 0 {
             return t;
         }
-        self.first_alike(before, s)
+        self.first_alike(next, s)
     }
 
     // The new class of each state, in `next`. Returns the word of the states that moved to another class.
@@ -100,7 +100,7 @@ impl<'a> Round<'a> {
         next[0] = 0;
         let mut word = 0;
         for s in 1..self.classes.len() {
-            let class = self.next_class(&next[..s], s);
+            let class = self.next_class(next, s);
             next[s] = class as u8;
             word = with_moved(word, s, usize::from(self.classes[s]), class);
         }
