@@ -8,7 +8,10 @@ use native.Mathlib.Omega.{arith}
 use Rattle.definitions.specs.Book.{width, states}
 use Rattle.definitions.specs.Refusal.{layout_holds}
 use Rattle.definitions.specs.Checked.{BookHeader}
-use Rattle.definitions.proofs.Accepted.{layout-true}
+use Rattle.definitions.proofs.Accepted.{header-true, layout-true}
+
+-- row 13 by its tests
+pub ruleset row_13 = (header-true, layout-true)
 
 module _ (b : List ℕ) where
   -- w is at least 1

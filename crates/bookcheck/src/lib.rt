@@ -62,6 +62,7 @@ fn is_marked(bytes: &[u8]) -> bool
 }
 
 // Row 13: the header, and the exact length.
+#[tactic(auto, using(crate::proofs::Checks::row_13))]
 fn lay_out(bytes: &[u8]) -> Option<Layout<'_>>
     requires { 12 ≤ length bytes.now }
     ensures { MatchOption result (layout_holds bytes.now ≡ false) (λ layout. (layout_holds bytes.now ≡ true) × (layout.bytes ≡ bytes.entry)) }
