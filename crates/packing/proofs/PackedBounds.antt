@@ -33,7 +33,7 @@ module _ (p buffer : List ℕ) where
   unfolding build_refusal
   passed e = ((judge-zero 0 (leb 17284 (length buffer)) (policy_refusal p)).0 e).1
 
-  book-given : (n : ℕ) → given n ≡ build_answer p buffer → n ≤ 17284
+  pub book-given : (n : ℕ) → given n ≡ build_answer p buffer → n ≤ 17284
   unfolding build_answer
   book-given n e =
       let is = answer-given (build_refusal p buffer) n (length (book_of p)) e in
@@ -49,7 +49,7 @@ module _ (b buffer : List ℕ) where
   unfolding page_refusal
   page_small e = (page-right b ((judge-zero 0 (leb 9271 (length buffer)) (book_refusal b)).0 e).1).room
 
-  page-given : (n : ℕ) → given n ≡ page_answer b buffer → n ≤ 9271
+  pub page-given : (n : ℕ) → given n ≡ page_answer b buffer → n ≤ 9271
   unfolding page_answer
   page-given n e =
       let is = answer-given (page_refusal b buffer) n (states b * 73) e in
@@ -58,6 +58,9 @@ module _ (b buffer : List ℕ) where
   pub paged_within : (r : Result ℕ Refusal) → paged_answer r ≡ page_answer b buffer → LengthWithin 9271 r
   paged_within (Err refusal) e = tt
   paged_within (Ok n) e = page-given n e
+
+-- how long a book and a page are at most
+pub ruleset lengths = (book-given, page-given)
 
 -- ---- way
 pub shown-within : (b : List ℕ) (r outcome : ℕ) (buffer : List ℕ) (shown : Result (Option ℕ) Refusal) (after : List ℕ) → length after ≡ length buffer

@@ -13,6 +13,7 @@ ghost use Rattle.packing.specs.Packing.{packed, equal_or_not, book_length, findi
 use packing::{pack_compare, pack_length, pack_same_bytes, pack_verdict, pack_way};
 
 // Builds the book of a policy. The value is the book's length. The book goes to the front of the buffer; the bytes after it are unchanged, and on a refusal all of them.
+#[tactic(auto, using(packing::proofs::PackedBounds::lengths))]
 #[unsafe(no_mangle)]
 pub extern "C" fn policybook_build(policy: &[u8], book: &mut [u8]) -> u64
     ensures value { result ≡ packed book_length (build_answer policy.now book.old) }
@@ -49,6 +50,7 @@ pub extern "C" fn policybook_compare(first: &[u8], second: &[u8], history: &mut 
 
 // Writes the page of a book: a line for each state. The value is its length. The page goes to the front of the buffer; the bytes after it are unchanged, and on a
 // refusal all of them.
+#[tactic(auto, using(packing::proofs::PackedBounds::lengths))]
 #[unsafe(no_mangle)]
 pub extern "C" fn policybook_page(book: &[u8], page: &mut [u8]) -> u64
     ensures value { result ≡ packed page_length (page_answer book.now page.old) }
