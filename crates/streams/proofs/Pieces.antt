@@ -43,3 +43,7 @@ done b = (b.fits, b.stays)
 
 pub filled : {n : ℕ} {before after : List ℕ} → Filled (Ok n) before after → BytesCame n before after
 filled f = record { fits = f.0; stays = f.1 }
+
+-- and where a read failed, that one did
+pub unfilled : (e : StreamError) (before after : List ℕ) → Filled (Err e) before after → e ≡ Unread
+unfilled e before after f = f
