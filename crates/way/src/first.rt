@@ -80,8 +80,8 @@ fn first_state<const N: usize, const M: usize>(
     None
 }
 
-// The way, where the start is no goal, by a search with room for fewer than N states. It stays apart: as part of `way`, behind all that can refuse the call, its
-// loops pass for seldom run, the compiler does not align them, and how long they take depends on the place of the library in a program.
+// The way, where the start is no goal, by a search with room for fewer than N states. It stays apart: as part of `way` its loops are not aligned, and how long
+// they take depends on the place of the library in a program.
 #[inline(never)]
 pub fn show_in<const N: usize, const M: usize>(goal: Goal, history: &mut [u8]) -> Option<usize>
     requires sizes { (2 ≤ N) × (N ≤ 128) × (M ≡ 2 * N) }
