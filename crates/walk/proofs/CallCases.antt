@@ -33,6 +33,14 @@ module _ (b : List ℕ) where
   unfolding open_refusal
   open_starts n e z = (e, rw (← e, eq-eqb n 0 z))
 
+  -- the same for the check to find
+  pub open_by_book : open_refusal b ≡ book_refusal b
+  unfolding open_refusal
+  open_by_book = refl
+
+  pub open_closed : 1 ≤ book_refusal b → open_state b ≡ 0
+  open_closed some = sym (open_refused (book_refusal b) refl (λ z. omega arith)).1
+
   -- the rows up to that of the state let the call pass
   pub state-passes : (s : ℕ) → 0 ≡ state_refusal b s → book_refusal b ≡ 0
   state-passes s e = ((then_judge-zero (book_refusal b) (judge 16 (state_holds b s) 0)).0 (sym e)).0
@@ -128,3 +136,5 @@ module _ (b : List ℕ) where
 
 -- the cases of a step, and that a refusal's number is not 0
 pub ruleset step_cases = (step_by_book, step_by_state, step_past_codes, step_to_none, step_possible, step_leads, step_stays, some_number)
+
+pub ruleset open_cases = (open_by_book, open_closed, some_number)

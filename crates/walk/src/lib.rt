@@ -13,6 +13,7 @@ use bookcheck::check;
 use refusal::Refusal;
 
 // Opening: the start.
+#[tactic(auto, using(crate::proofs::CallCases::open_cases))]
 pub fn open(bytes: &[u8]) -> Result<usize, Refusal>
     ensures refusal { refusal_in result ≡ open_refusal bytes.now }
     ensures state { IfOk result (λ state. state ≡ 1) }
