@@ -20,7 +20,7 @@ use Rattle.search.specs.Found.{SmallTable, rows_machine, states_of, reached_at, 
 use Rattle.search.specs.Searched as Searched
 use Rattle.search.specs.declared.breadth_first.Search.{Search}
 use Rattle.search.proofs.TableRows.{rows_step, states-few, states-inside}
-use Rattle.search.proofs.Found.{found-length, found_at, kept_grown, kept_at, numbered_of}
+use Rattle.search.proofs.Found.{found-length, found_at, kept_grown, kept_at}
 
 -- ---- the codes of one state
 -- of the state at place i of n the codes below c have been tried, and k states are found
@@ -123,56 +123,46 @@ searched_begun rows w {n} {order} {trail} e = record {
   come = come_begun (rows_machine rows w) 127 (states_of rows w) (found_in n order trail) e (all_states_law rows w);
 }
 
--- ---- arrays that a search begins with
-module _ (most : ℕ) (order trail numbers : List ℕ) (some : 1 ≤ most) (E : EmptyArrays most order trail numbers) where
-  two : 1 < length numbers
-  two = omega (arith, some, E.enough)
-
+-- ---- arrays that a search begins with: state 1 is found
+module _ (order trail : List ℕ) (some : 1 ≤ length order) where
   first : found_in 1 (set order 0 1) trail ≡ started
   unfolding found_in
   first =
-      let state : byte (set order 0 1) 0 ≡ 1 = get_or-set_same order 0 1 0 (omega (arith, two, E.room_order)) in
+      let state : byte (set order 0 1) 0 ≡ 1 = get_or-set_same order 0 1 0 (omega arith) in
       let history : history_at trail 0 ≡ [] = trail-start (first_at trail) (second_at trail) in
       rw (state, history)
 
-  numbered : (s : ℕ) → s < length numbers → byte (set (set numbers 0 1) 1 1) s ≡ number_of started s
-  numbered zero l = get_or-set_other (set numbers 0 1) 1 0 1 0 (λ e. omega arith) ∙ get_or-set_same numbers 0 1 0 l
-  numbered (suc zero) l = get_or-set_same (set numbers 0 1) 1 1 0 (rw length-set l)
+-- and has its number
+module _ (numbers : List ℕ) (n : ℕ) (empty : numbers ≡ replicate n 0) where
+  room : length numbers ≡ n
+  room = ap length empty ∙ length-replicate n 0
+
+  numbered : (s : ℕ) → s < n → byte (set (set numbers 0 1) 1 1) s ≡ number_of started s
+  numbered zero l = get_or-set_other (set numbers 0 1) 1 0 1 0 (λ e. omega arith) ∙ get_or-set_same numbers 0 1 0 (omega (arith, room))
+  numbered (suc zero) l = get_or-set_same (set numbers 0 1) 1 1 0 (rw length-set (omega (arith, room)))
   numbered (suc (suc s)) l =
       get_or-set_other (set numbers 0 1) 1 (suc (suc s)) 1 0 (λ e. omega arith) ∙ get_or-set_other numbers 0 (suc (suc s)) 1 0 (λ e. omega arith)
-      ∙ ap (λ (x : List ℕ). byte x (suc (suc s))) E.empty ∙ get_or-replicate (length numbers) (suc (suc s)) 0 0 l ∙ rw (ne_eqb (suc (suc s)) 1 (λ e. omega arith))
+      ∙ ap (λ (x : List ℕ). byte x (suc (suc s))) empty ∙ get_or-replicate n (suc (suc s)) 0 0 l ∙ rw (ne_eqb (suc (suc s)) 1 (λ e. omega arith))
 
+module _ (most : ℕ) (order trail numbers : List ℕ) (some : 1 ≤ most) (E : EmptyArrays most order trail numbers) where
   pub arrays_begun : Arrays started 1 (set order 0 1) trail (set (set numbers 0 1) 1 1)
   arrays_begun = record {
-    holds = record { are = first; falls = λ k l. absurd (omega arith) };
+    holds = record { are = first order trail (omega (arith, some, E.enough, E.room_order)); falls = λ k l. absurd (omega arith) };
     few = simp length-set E.few;
     room_order = simp length-set E.room_order;
     room_trail = simp length-set E.room_trail;
-    numbered = λ s l. numbered s (simp length-set at l);
+    numbered = λ s l. numbered numbers (length numbers) E.empty s (simp length-set at l);
   }
 
 -- those of a new search
-module _ (N M : ℕ) (sizes : (2 ≤ N) × (N ≤ 128) × (M ≡ 2 * N)) {order numbers : List ℕ} (eo : order ≡ set (replicate N 0) 0 1) (en : numbers ≡ set (set (replicate N 0) 0 1) 1 1) where
-  long : length (replicate {A = ℕ} N 0) ≡ N
-  long = length-replicate N 0
-
-  empty_law : EmptyArrays 1 (replicate N 0) (replicate M 0) (replicate N 0)
-  empty_law = record {
-    enough = omega (arith, long, sizes);
-    few = omega (arith, long, sizes);
-    room_order = omega arith;
-    room_trail = omega (arith, long, sizes, length-replicate {A = ℕ} M 0);
-    empty = ap (λ (n : ℕ). replicate n 0) (sym long);
-  }
-
-  begun : Arrays started 1 order (replicate M 0) numbers
-  begun = rw (eo, en) (arrays_begun 1 (replicate N 0) (replicate M 0) (replicate N 0) (omega arith) empty_law)
-
+module _ (N M : ℕ) (two : 1 < N) {order numbers : List ℕ} (eo : order ≡ set (replicate N 0) 0 1) (en : numbers ≡ set (set (replicate N 0) 0 1) 1 1) where
   pub new-found : found_in 1 order (replicate M 0) ≡ started
-  new-found = begun.holds.are
+  new-found = rw eo (first (replicate N 0) (replicate M 0) (omega (arith, length-replicate {A = ℕ} N 0)))
 
   pub new-numbered : (s : ℕ) → s < N → Numbered 1 order (replicate M 0) numbers s
-  new-numbered s l = numbered_of begun s (rw (en, length-set, length-set, long) l)
+  new-numbered s l =
+      ap (λ (x : List ℕ). byte x s) en ∙ numbered (replicate N 0) N refl s l
+      ∙ ap (λ (L : List Reached). number_of L s) (sym new-found)
 
 -- ---- a search that goes on
 module _ (rows : List ℕ) (w : ℕ) (small : SmallTable rows w) {i n : ℕ} {order trail : List ℕ} (S : SearchTurnIn rows w i n order trail) where
